@@ -1,0 +1,69 @@
+-- Document 01, "The steps": the three asks, each with its own refusals in the order given, behind the gate for 6 and 7.
+-- Assumes nothing.
+use Prim.Native.Nat.{ℕ, _+_, _-_}
+use mathlib.Core.Bool.{Bool, true, not}
+use lib.Dec.{eqb, leb, ltb}
+use Rattle.choice.specs.Pick.{pick, _and_, _or_}
+use Rattle.phases.specs.Phases.{none, remove, updates, ready, undo, recoverRemove, recovered}
+use Rattle.record.specs.Whole.{top}
+use Rattle.record.specs.Fields.{withTicket, withPlace, withBatch, spent, adopting}
+use Rattle.record.specs.Answers.{Told, answer, refuse, gateOf, gated}
+use Rattle.record.specs.declared.Record.{Record}
+use Rattle.record.specs.declared.Live.{Live}
+use Rattle.record.specs.declared.Live.the-variants.{Structure, Update, Rollback}
+use Rattle.record.specs.declared.Answer.the-variants.{Ticket, Finished}
+use Rattle.record.specs.declared.Refusal.the-variants.{NotReady, Recovering, Worn}
+
+-- "or a ticket: serial plus one, live. Ticket carries it and the phase or the action's number."
+abbrev pub issue : (ℕ → Live) → ℕ → Record → Told
+issue live item r = answer (Ticket (r .serial + 1) item) (withTicket (r .serial + 1) (live (r .serial + 1)) r)
+
+-- "the serial is at its maximum"
+abbrev pub worn : Record → Bool
+worn r = eqb (r .serial) top
+
+-- "Ask structure: phases 0, 5, 8 give 4; 7 and 13 give Finished; else 11, or a ticket"
+unfoldable pub askStructureOwn : Record → Told
+askStructureOwn r =
+    pick (eqb (r .phase .number) none or eqb (r .phase .number) updates or eqb (r .phase .number) undo) (refuse NotReady r)
+    (pick (eqb (r .phase .number) ready or eqb (r .phase .number) recovered) (answer Finished r)
+    (pick (worn r) (refuse Worn r)
+    (issue Structure (r .phase .number) r)))
+
+-- "attempted becomes applied + 1"
+abbrev pub started : Record → Record
+started r = withBatch (r .entries) (r .applied) (r .applied + 1) (r .restoring) r
+
+-- "Ask update: phase neither 0 nor 5, or restoring, gives 5; applied = entries gives Finished, and phase 5 becomes 6; else 11,
+-- or a ticket, and attempted becomes applied + 1."
+unfoldable pub askUpdateOwn : Record → Told
+askUpdateOwn r =
+    pick (not (eqb (r .phase .number) none or eqb (r .phase .number) updates) or r .restoring) (refuse Recovering r)
+    (pick (eqb (r .applied) (r .entries)) (answer Finished (adopting r))
+    (pick (worn r) (refuse Worn r)
+    (issue Update (r .applied) (started r))))
+
+-- "restoring is set, entries = attempted", and "a phase 1 to 7 becomes" to
+unfoldable pub turned : ℕ → Record → Record
+turned to r =
+    withPlace (pick (leb remove (r .phase .number) and leb (r .phase .number) ready) to (r .phase .number)) (r .forward) (r .back)
+    (withBatch (r .attempted) (r .applied) (r .attempted) true r)
+
+-- "Ask rollback: in phases 9 to 13 Finished, nothing changes. Else 11 if attempted > 0 and the serial is at its maximum. Else
+-- .. the live ticket ends. With no entries: Finished, and a phase 1 to 7 becomes 9. Else a ticket for the last action, and a
+-- phase 1 to 7 becomes 8."
+unfoldable pub askRollbackOwn : Record → Told
+askRollbackOwn r =
+    pick (leb recoverRemove (r .phase .number)) (answer Finished r)
+    (pick (ltb 0 (r .attempted) and worn r) (refuse Worn r)
+    (pick (eqb (r .attempted) 0) (answer Finished (spent (turned recoverRemove r)))
+    (issue Rollback (r .attempted - 1) (turned undo r))))
+
+abbrev pub askStructureStep : Bool → Bool → Record → Told
+askStructureStep sized sound r = gated (gateOf sized sound r) r (askStructureOwn r)
+
+abbrev pub askUpdateStep : Bool → Bool → Record → Told
+askUpdateStep sized sound r = gated (gateOf sized sound r) r (askUpdateOwn r)
+
+abbrev pub askRollbackStep : Bool → Bool → Record → Told
+askRollbackStep sized sound r = gated (gateOf sized sound r) r (askRollbackOwn r)

@@ -1,0 +1,34 @@
+-- `batch::store` meets its contract: past the table's end nothing is stored. Assumes nothing.
+use mathlib.Core.Path.{refl, sym}
+use lib.Seq.{set-out}
+use Rattle.batch.specs.Batch.{stored}
+use borrow.Author.Needs.{needs}
+use Rattle.batch.proofs.store.Statement.{statement}
+use Rattle.batch.proofs.store.Tie as tie
+
+mul-at : tie.Need-mul-at
+mul-at c = search needs
+
+add-at : tie.Need-add-at
+add-at c = search needs
+
+mul-table : tie.Need-mul-table
+mul-table c = search needs
+
+slice-write-table : tie.Need-slice-write-table
+slice-write-table c = search needs
+
+same-length : tie.Need-same-length
+same-length c = search needs
+
+returns : tie.Need-returns
+unfolding stored
+returns c = refl
+
+returns-2 : tie.Need-returns-2
+unfolding stored
+returns-2 c = sym (set-out _ _ _ (c .if1 .left))
+
+pub store-spec : {M : Type 1} → statement M
+store-spec =
+    tie.close (tie.spec mul-at add-at mul-table slice-write-table same-length returns returns-2)

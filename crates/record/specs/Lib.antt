@@ -1,0 +1,4 @@
+pub mod Live
+pub mod Whole
+pub mod Fields
+pub mod Answers

@@ -1,0 +1,35 @@
+-- Document 01, "What is lent and kept": "the record holds which kind of ticket is live, with its number". Assumes nothing.
+use Prim.Native.Nat.{ℕ}
+use mathlib.Core.Bool.{Bool}
+use lib.Dec.{eqb}
+use Rattle.choice.specs.Pick.{_and_}
+use Rattle.record.specs.declared.Live.{Live}
+use Rattle.record.specs.declared.Live.the-variants.{None, Structure, Update, Rollback}
+
+abbrev pub noTicket : ℕ
+noTicket = 0
+
+abbrev pub structure : ℕ
+structure = 1
+
+abbrev pub update : ℕ
+update = 2
+
+abbrev pub rollback : ℕ
+rollback = 3
+
+abbrev pub kind : Live → ℕ
+kind None = noTicket
+kind (Structure n) = structure
+kind (Update n) = update
+kind (Rollback n) = rollback
+
+abbrev pub number : Live → ℕ
+number None = 0
+number (Structure n) = n
+number (Update n) = n
+number (Rollback n) = n
+
+-- the ticket is the live one of that kind
+unfoldable pub isLive : ℕ → ℕ → Live → Bool
+isLive of ticket l = eqb (kind l) of and eqb (number l) ticket

@@ -1,0 +1,155 @@
+// The record of a transaction: what is kept between calls, by value; its wholeness; and what calls answer.
+mod answers;
+mod tickets;
+mod whole;
+
+use phases::Phase;
+ghost use mathlib.Core.Path.{_≡_};
+ghost use Rattle.record.specs.Fields.{withTicket, adopting};
+ghost use Rattle.record.specs.Answers.{refuse, tells, gateOf};
+
+// The largest u64: no revision is committed over it, and no serial is given past it.
+pub const MAX: u64 = 18446744073709551615;
+
+// Which kind of ticket is live, with its number.
+pub enum Live {
+    None,
+    Structure(u64),
+    Update(u64),
+    Rollback(u64),
+}
+
+pub struct Record {
+    pub revision: u64,
+    pub serial: u64,
+    pub accepted: usize,
+    pub candidate: usize,
+    pub recovery: usize,
+    pub staged: bool,
+    pub phase: Phase,
+    pub forward: u8,
+    pub back: u8,
+    pub entries: u32,
+    pub applied: u32,
+    pub attempted: u32,
+    pub restoring: bool,
+    pub live: Live,
+}
+
+// What became of the work that a ticket was given for.
+pub enum Outcome {
+    Waiting,
+    Failed(u64),
+    Done,
+}
+
+pub enum Refusal {
+    Pending,
+    Idle,
+    Capacity,
+    NotReady,
+    Recovering,
+    BadArea,
+    Damaged,
+    TooLong,
+    TooMany,
+    Stale,
+    Worn,
+    LogFull,
+    NoStatus,
+}
+
+// Lengths and counts as they were, which a performed call gives back.
+pub enum Was {
+    Nothing,
+    One(usize),
+    Three(usize, usize, usize),
+}
+
+// `item` of a ticket is the phase, or the action's number.
+pub enum Answer {
+    Done(Was),
+    Refused(Refusal),
+    Ticket { number: u64, item: u32 },
+    Waiting,
+    Failed(u64),
+    More,
+    Finished,
+}
+
+// What a call answers, and the record that it leaves.
+pub struct Stepped {
+    pub answer: Answer,
+    pub state: Record,
+}
+
+// What was found of all that a call is lent together: that every size is right, and that what is read in it is sound.
+pub struct Lent {
+    pub sized: bool,
+    pub sound: bool,
+}
+
+// Whether a call goes on to its own refusals.
+pub enum Gate {
+    Open,
+    Shut(Refusal),
+}
+
+impl Record {
+    // The same record with another serial and live ticket.
+    pub fn with_ticket(self, serial: u64, live: Live) -> Record
+        ensures { λ r. ⌜ r ≡ withTicket serial live self ⌝ }
+    {
+        let phase = self.phase;
+        Record {
+            revision: self.revision,
+            serial: serial,
+            accepted: self.accepted,
+            candidate: self.candidate,
+            recovery: self.recovery,
+            staged: self.staged,
+            phase: phase,
+            forward: self.forward,
+            back: self.back,
+            entries: self.entries,
+            applied: self.applied,
+            attempted: self.attempted,
+            restoring: self.restoring,
+            live: live,
+        }
+    }
+
+    // Once every action is applied, phase 5 becomes 6.
+    pub fn adopting(mut self) -> Record
+        ensures { λ r. ⌜ r ≡ adopting self ⌝ }
+    {
+        if self.phase.number == Phase::UPDATES {
+            self.phase.number = Phase::ADOPT;
+        }
+        self
+    }
+
+    // A refusal returns the record equal.
+    pub fn refuse(self, why: Refusal) -> Stepped
+        ensures { λ s. ⌜ tells s ≡ refuse why self ⌝ }
+    {
+        Stepped {
+            answer: Answer::Refused(why),
+            state: self,
+        }
+    }
+
+    // The refusals that every call begins with, in their order.
+    pub fn gate(self, lent: Lent) -> Gate
+        ensures { λ g. ⌜ g ≡ gateOf (lent .sized) (lent .sound) self ⌝ }
+    {
+        if !lent.sized {
+            return Gate::Shut(Refusal::BadArea);
+        }
+        if lent.sound & self.whole() {
+            Gate::Open
+        } else {
+            Gate::Shut(Refusal::Damaged)
+        }
+    }
+}

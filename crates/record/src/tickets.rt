@@ -1,0 +1,45 @@
+// The live ticket's kind and number, and whether a ticket is the live one.
+use super::Live;
+ghost use mathlib.Core.Path.{_≡_};
+ghost use Rattle.record.specs.Live.{kind, number, isLive};
+
+impl Live {
+    pub const NONE: u8 = 0;
+
+    pub const STRUCTURE: u8 = 1;
+
+    pub const UPDATE: u8 = 2;
+
+    pub const ROLLBACK: u8 = 3;
+
+    // The kind as a number, for tests: an enum is compared by a match.
+    pub fn kind(self) -> u8
+        ensures { λ n. ⌜ n ≡ kind self ⌝ }
+    {
+        match self {
+            Live::None => Live::NONE,
+            Live::Structure(_) => Live::STRUCTURE,
+            Live::Update(_) => Live::UPDATE,
+            Live::Rollback(_) => Live::ROLLBACK,
+        }
+    }
+
+    // The ticket's number, 0 where none is live.
+    pub fn number(self) -> u64
+        ensures { λ n. ⌜ n ≡ number self ⌝ }
+    {
+        match self {
+            Live::None => 0,
+            Live::Structure(n) => n,
+            Live::Update(n) => n,
+            Live::Rollback(n) => n,
+        }
+    }
+
+    // Whether a ticket is the live one of a kind.
+    pub fn is(self, of: u8, ticket: u64) -> bool
+        ensures { λ b. ⌜ b ≡ isLive of ticket self ⌝ }
+    {
+        (self.kind() == of) & (self.number() == ticket)
+    }
+}
