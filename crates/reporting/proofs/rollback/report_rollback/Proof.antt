@@ -1,0 +1,56 @@
+-- `reporting::rollback::report_rollback` meets its contract. Assumes nothing.
+use mathlib.Core.Path.{ap, _∙_}
+use Rattle.record.specs.declared.Record.{Record}
+use Rattle.record.proofs.Gates.{shut, opened}
+use Rattle.reporting.specs.Done.{rollbackDone}
+use Rattle.reporting.specs.Reports.{reported}
+use Rattle.reporting.proofs.Admitted.{rollback-room}
+use borrow.Author.Needs.{needs}
+use Rattle.reporting.proofs.rollback.report_rollback.Statement.{statement}
+use Rattle.reporting.proofs.rollback.report_rollback.Tie as tie
+
+report-gate-requires : tie.Need-report-gate-requires
+report-gate-requires c κs = search needs
+
+enum-known-gate : tie.Need-enum-known-gate
+enum-known-gate c = search needs
+
+refuse-requires : tie.Need-refuse-requires
+refuse-requires c κs = search needs
+
+returns : tie.Need-returns
+returns c = shut _ (c .before .before .before .before .report-gate .ensures) (c .before .before .gate .given .1) (c .refuse .ensures)
+
+enum-told : tie.Need-enum-told
+enum-told c = search needs
+
+with-ticket-requires : tie.Need-with-ticket-requires
+with-ticket-requires c κs = search needs
+
+rollback-done-requires : tie.Need-rollback-done-requires
+rollback-done-requires c κs = rw (c .with-ticket .ensures) (rollback-room _ _ _ _ (c .before .before .before .report-gate .ensures) (c .before .enum-told .given .1))
+
+reported-requires : tie.Need-reported-requires
+reported-requires c κs = search needs
+
+returns-2 : tie.Need-returns-2
+returns-2 c =
+    let o = c .before .before .before .before .before .before .args .outcome in
+    opened _ (c .before .before .before .before .before .report-gate .ensures) (c .before .before .before .enum-told .given .1)
+    (c .reported .ensures
+    ∙ ap (reported o (c .before .before .with-ticket .result)) (c .before .rollback-done .ensures)
+    ∙ ap (λ (x : Record). reported o x (rollbackDone x)) (c .before .before .with-ticket .ensures))
+
+pub report-rollback-spec : {M : Type 1} → statement M
+report-rollback-spec =
+    tie.close
+    (tie.spec
+    report-gate-requires
+    enum-known-gate
+    refuse-requires
+    returns
+    enum-told
+    with-ticket-requires
+    rollback-done-requires
+    reported-requires
+    returns-2)

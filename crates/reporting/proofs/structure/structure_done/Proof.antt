@@ -1,0 +1,34 @@
+-- `reporting::structure::structure_done` meets its contract. Assumes nothing.
+use mathlib.Core.Bool.{Bool}
+use mathlib.Core.Path.{ap, _∙_}
+use Rattle.choice.proofs.Picks.{yes, no, told}
+use Rattle.phases.specs.Phases.{boundary}
+use Rattle.record.specs.Answers.{answer}
+use Rattle.record.specs.declared.Record.{Record}
+use Rattle.record.specs.declared.Answer.the-variants.{More, Finished}
+use Rattle.reporting.specs.Done.{advanced, structureDone}
+use borrow.Author.Needs.{needs}
+use Rattle.reporting.proofs.structure.structure_done.Statement.{statement}
+use Rattle.reporting.proofs.structure.structure_done.Tie as tie
+
+abbrev at-boundary : Record → Bool
+at-boundary r = boundary (r .phase .number)
+
+advanced-requires : tie.Need-advanced-requires
+advanced-requires c κs = search needs
+
+boundary-requires : tie.Need-boundary-requires
+boundary-requires c κs = search needs
+
+returns : tie.Need-returns
+unfolding structureDone advanced
+returns c =
+    yes _ (told (c .before .boundary .ensures ∙ ap at-boundary (c .before .before .advanced .ensures)) (c .if1 .taken)) (ap (answer Finished) (c .before .before .advanced .ensures))
+
+returns-2 : tie.Need-returns-2
+unfolding structureDone advanced
+returns-2 c =
+    no _ (told (c .before .boundary .ensures ∙ ap at-boundary (c .before .before .advanced .ensures)) (c .if1 .left)) (ap (answer More) (c .before .before .advanced .ensures))
+
+pub structure-done-spec : {M : Type 1} → statement M
+structure-done-spec = tie.close (tie.spec advanced-requires boundary-requires returns returns-2)

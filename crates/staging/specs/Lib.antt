@@ -1,0 +1,4 @@
+pub mod Opening
+pub mod Beginning
+pub mod Ending
+pub mod Stamping

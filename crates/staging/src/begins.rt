@@ -1,0 +1,86 @@
+// Beginning a transaction, and editing what is staged.
+use record::Answer;
+use record::Gate;
+use record::Lent;
+use record::Live;
+use record::Record;
+use record::Refusal;
+use record::Stepped;
+use record::Was;
+
+ghost use mathlib.Core.Path.{_≡_};
+ghost use Rattle.record.specs.Answers.{tells};
+ghost use Rattle.staging.specs.Beginning.{begun, beginStep, editStep};
+
+// A staged record in a first phase, with every count 0 but the entries.
+fn begun(mut r: Record, phase: u8, candidate: usize, recovery: usize, entries: u32) -> Record
+    ensures { λ s. ⌜ s ≡ begun phase candidate recovery entries r ⌝ }
+{
+    r.candidate = candidate;
+    r.recovery = recovery;
+    r.staged = true;
+    r.phase.number = phase;
+    r.forward = 0;
+    r.back = 0;
+    r.entries = entries;
+    r.applied = 0;
+    r.attempted = 0;
+    r.restoring = false;
+    r.with_ticket(r.serial, Live::None)
+}
+
+// Begin with a first phase: none for an update-only transaction, Remove for a structural one.
+pub fn begin(
+    r: Record,
+    lent: Lent,
+    phase: u8,
+    candidate: usize,
+    recovery: usize,
+    actions: usize,
+) -> Stepped
+    ensures { λ s. ⌜ tells s ≡ beginStep (lent .sized) (lent .sound) phase r candidate recovery actions ⌝ }
+{
+    let gate = r.gate(lent);
+    if let Gate::Shut(why) = gate {
+        return r.refuse(why);
+    }
+    if r.staged {
+        return r.refuse(Refusal::Pending);
+    }
+    if r.revision == record::MAX {
+        return r.refuse(Refusal::Capacity);
+    }
+    if (areas::SIZE < candidate) | (areas::SIZE < recovery) {
+        return r.refuse(Refusal::TooLong);
+    }
+    if batch::LIMIT < actions {
+        return r.refuse(Refusal::TooMany);
+    }
+    Stepped {
+        answer: Answer::Done(Was::Nothing),
+        state: begun(r, phase, candidate, recovery, actions as u32),
+    }
+}
+
+// Both payloads are replaced; all else, the phase included, is kept.
+pub fn edit(r: Record, lent: Lent, candidate: usize, recovery: usize) -> Stepped
+    ensures { λ s. ⌜ tells s ≡ editStep (lent .sized) (lent .sound) r candidate recovery ⌝ }
+{
+    let gate = r.gate(lent);
+    if let Gate::Shut(why) = gate {
+        return r.refuse(why);
+    }
+    if !r.staged {
+        return r.refuse(Refusal::Idle);
+    }
+    if (areas::SIZE < candidate) | (areas::SIZE < recovery) {
+        return r.refuse(Refusal::TooLong);
+    }
+    let mut edited = r;
+    edited.candidate = candidate;
+    edited.recovery = recovery;
+    Stepped {
+        answer: Answer::Done(Was::Nothing),
+        state: edited,
+    }
+}
