@@ -3,11 +3,11 @@ use Prim.Native.Nat.{ℕ, _≤_, _<_, _+_}
 use mathlib.Core.Path.{_≡_}
 use mathlib.Core.Bool.{Bool, true}
 use lib.Dec.{leb}
-use borrow.Author.Tests.{eqb-true}
+use borrow.Author.Tests.{eqb-true, ltb-true}
 use Rattle.choice.proofs.Tests.{both, either, follows, tests}
 use Rattle.phases.specs.Phases.{hasSuccessor, recovered}
 use Rattle.record.specs.Live.{isLive, structure, update, rollback}
-use Rattle.record.specs.Whole.{whole, lengthsFit, countsFit, stagedFits, forwardFits, backFits, restoringFits, liveFits}
+use Rattle.record.specs.Whole.{top, whole, lengthsFit, countsFit, stagedFits, forwardFits, backFits, restoringFits, liveFits}
 use Rattle.record.specs.Answers.{gateOf}
 use Rattle.record.specs.declared.Record.{Record}
 use Rattle.record.specs.declared.Gate.{Gate}
@@ -94,3 +94,8 @@ pub restoring-all : (restoring : Bool) (p n a k : ℕ) → restoringFits restori
 unfolding restoringFits
 restoring-all restoring p n a k h e =
     eqb-true _ _ (follows (both (both (both (both (both (both (both h .0) .0) .0) .0) .0) .0) .0) e)
+
+-- a staged record's revision can be raised
+pub staged-room : (staged : Bool) (v p n : ℕ) (l : Live) → stagedFits staged v p n l ≡ true → staged ≡ true → v < top
+unfolding stagedFits
+staged-room staged v p n l h e = ltb-true _ _ (follows (both h .0) e)

@@ -101,21 +101,21 @@ tells-one s t e =
 abbrev pub refuses : Answer → Bool
 refuses a = refused (says a .number)
 
-refusal-refused : (why : Refusal) → refuses (Refused why) ≡ true
+pub refused-number : (why : Refusal) → refused (refusalNumber why) ≡ true
 unfolding refused _and_
-refusal-refused Pending = refl
-refusal-refused Idle = refl
-refusal-refused Capacity = refl
-refusal-refused NotReady = refl
-refusal-refused Recovering = refl
-refusal-refused BadArea = refl
-refusal-refused Damaged = refl
-refusal-refused TooLong = refl
-refusal-refused TooMany = refl
-refusal-refused Stale = refl
-refusal-refused Worn = refl
-refusal-refused LogFull = refl
-refusal-refused NoStatus = refl
+refused-number Pending = refl
+refused-number Idle = refl
+refused-number Capacity = refl
+refused-number NotReady = refl
+refused-number Recovering = refl
+refused-number BadArea = refl
+refused-number Damaged = refl
+refused-number TooLong = refl
+refused-number TooMany = refl
+refused-number Stale = refl
+refused-number Worn = refl
+refused-number LogFull = refl
+refused-number NoStatus = refl
 
 pub refused-of : {a : Answer} {why : Refusal} → a ≡ Refused why → refuses a ≡ true
-refused-of {why = why} h = ap refuses h ∙ refusal-refused why
+refused-of {why = why} h = ap refuses h ∙ refused-number why

@@ -4,10 +4,6 @@ mod rollback;
 mod structure;
 mod update;
 
-pub use rollback::report_rollback;
-pub use structure::report_structure;
-pub use update::report_update;
-
 use record::Answer;
 use record::Gate;
 use record::Lent;
@@ -15,7 +11,9 @@ use record::Outcome;
 use record::Record;
 use record::Refusal;
 use record::Stepped;
-
+pub use rollback::report_rollback;
+pub use structure::report_structure;
+pub use update::report_update;
 ghost use mathlib.Core.Path.{_≡_};
 ghost use Rattle.record.specs.Answers.{tells};
 ghost use Rattle.reporting.specs.Reports.{reportGate, reported};

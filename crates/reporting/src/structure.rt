@@ -10,7 +10,6 @@ use record::Outcome;
 use record::Record;
 use record::Refusal;
 use record::Stepped;
-
 ghost use mathlib.Core.Path.{_≡_};
 ghost use Prim.Native.Nat.{_≤_};
 ghost use Rattle.record.specs.Answers.{tells};

@@ -7,7 +7,6 @@ use record::Record;
 use record::Refusal;
 use record::Stepped;
 use record::Was;
-
 ghost use mathlib.Core.Path.{_≡_};
 ghost use Rattle.record.specs.Answers.{tells};
 ghost use Rattle.staging.specs.Beginning.{begun, beginStep, editStep};

@@ -12,10 +12,9 @@ pub use ends::recover;
 pub use ends::recover_retained;
 pub use ends::refresh;
 pub use opens::open;
+use record::Refusal;
 pub use stamps::check;
 pub use stamps::stamp;
-
-use record::Refusal;
 
 // What an opening is given besides its payload.
 pub struct Opening {
@@ -24,14 +23,14 @@ pub struct Opening {
 }
 
 // A save plan's stamp: which domain it was reviewed in, and at which revision.
-pub struct Stamp {
+pub struct SaveStamp {
     pub domain: u64,
     pub revision: u64,
 }
 
 // A stamp, or why there is none.
 pub enum Stamping {
-    Taken(Stamp),
+    Taken(SaveStamp),
     Refused(Refusal),
 }
 

@@ -1,10 +1,9 @@
 // Stamps: a plan reviewed at one revision must not be saved over another.
 use super::Checked;
-use super::Stamp;
+use super::SaveStamp;
 use super::Stamping;
 use record::Record;
 use record::Refusal;
-
 ghost use mathlib.Core.Path.{_≡_};
 ghost use Rattle.staging.specs.Stamping.{saysStamping, saysChecked, stampStep, checkStep};
 
@@ -18,7 +17,7 @@ pub fn stamp(r: Record, domain: u64) -> Stamping
     if r.staged {
         Stamping::Refused(Refusal::Pending)
     } else {
-        Stamping::Taken(Stamp {
+        Stamping::Taken(SaveStamp {
             domain: domain,
             revision: r.revision,
         })
@@ -26,7 +25,7 @@ pub fn stamp(r: Record, domain: u64) -> Stamping
 }
 
 // Whether a stamp is still the record's, in a domain.
-pub fn check(r: Record, domain: u64, stamp: Stamp) -> Checked
+pub fn check(r: Record, domain: u64, stamp: SaveStamp) -> Checked
     ensures { λ s. ⌜ saysChecked s ≡ checkStep r domain (stamp .domain) (stamp .revision) ⌝ }
 {
     if !r.whole() {

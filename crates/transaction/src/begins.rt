@@ -1,0 +1,99 @@
+// Beginning a transaction, and editing what is staged.
+use phases::Phase;
+use record::Lent;
+use record::Record;
+use record::Stepped;
+ghost use mathlib.Core.Path.{_≡_};
+ghost use mathlib.Core.List.{_∷_, []};
+ghost use Rattle.phases.specs.Phases.{none, remove};
+ghost use Rattle.record.specs.Answers.{tells};
+ghost use Rattle.transaction.specs.Leaves.{leaves};
+ghost use Rattle.transaction.specs.Begins.{beginLeaves, editLeaves};
+
+// Stages a candidate payload (`new`), a recovery payload (`old`) and the pairs of a batch, in a first phase.
+fn begin_in(
+    phase: u8,
+    r: Record,
+    candidate: &mut [u8],
+    recovery: &mut [u8],
+    table: &mut [u64],
+    new: &[u8],
+    old: &[u8],
+    pairs: &[u64],
+) -> Stepped
+    ensures { λ s. ⌜ leaves (tells s) (now (candidate .exit) ∷ now (recovery .exit) ∷ now (table .exit) ∷ []) ≡ beginLeaves phase r (now (candidate .entry)) (now (recovery .entry)) (now (table .entry)) (now (new .entry)) (now (old .entry)) (now (pairs .entry)) ⌝ }
+{
+    let lent = Lent {
+        sized: (candidate.len() == areas::SIZE)
+            & (recovery.len() == areas::SIZE)
+            & (table.len() == batch::WORDS)
+            & (pairs.len() % 2 == 0),
+        sound: true,
+    };
+    let stepped = staging::begin(r, lent, phase, new.len(), old.len(), pairs.len() / 2);
+    let answer = stepped.answer;
+    if answer.is_refused() {
+        return stepped;
+    }
+    areas::copy_bytes(candidate, new);
+    areas::copy_bytes(recovery, old);
+    batch::put_pairs(table, pairs);
+    stepped
+}
+
+// An update-only transaction.
+pub fn begin(
+    r: Record,
+    candidate: &mut [u8],
+    recovery: &mut [u8],
+    table: &mut [u64],
+    new: &[u8],
+    old: &[u8],
+    pairs: &[u64],
+) -> Stepped
+    ensures { λ s. ⌜ leaves (tells s) (now (candidate .exit) ∷ now (recovery .exit) ∷ now (table .exit) ∷ []) ≡ beginLeaves none r (now (candidate .entry)) (now (recovery .entry)) (now (table .entry)) (now (new .entry)) (now (old .entry)) (now (pairs .entry)) ⌝ }
+{
+    begin_in(Phase::NONE, r, candidate, recovery, table, new, old, pairs)
+}
+
+// A structural transaction: the phases 1 to 7 stand about its updates.
+pub fn begin_structural(
+    r: Record,
+    candidate: &mut [u8],
+    recovery: &mut [u8],
+    table: &mut [u64],
+    new: &[u8],
+    old: &[u8],
+    pairs: &[u64],
+) -> Stepped
+    ensures { λ s. ⌜ leaves (tells s) (now (candidate .exit) ∷ now (recovery .exit) ∷ now (table .exit) ∷ []) ≡ beginLeaves remove r (now (candidate .entry)) (now (recovery .entry)) (now (table .entry)) (now (new .entry)) (now (old .entry)) (now (pairs .entry)) ⌝ }
+{
+    begin_in(
+        Phase::REMOVE,
+        r,
+        candidate,
+        recovery,
+        table,
+        new,
+        old,
+        pairs,
+    )
+}
+
+// Replaces both staged payloads.
+pub fn edit(r: Record, candidate: &mut [u8], recovery: &mut [u8], new: &[u8], old: &[u8]) -> Stepped
+    ensures { λ s. ⌜ leaves (tells s) (now (candidate .exit) ∷ now (recovery .exit) ∷ []) ≡ editLeaves r (now (candidate .entry)) (now (recovery .entry)) (now (new .entry)) (now (old .entry)) ⌝ }
+{
+    let lent = Lent {
+        sized: (candidate.len() == areas::SIZE) & (recovery.len() == areas::SIZE),
+        sound: true,
+    };
+    let stepped = staging::edit(r, lent, new.len(), old.len());
+    let answer = stepped.answer;
+    if answer.is_refused() {
+        return stepped;
+    }
+    areas::copy_bytes(candidate, new);
+    areas::copy_bytes(recovery, old);
+    stepped
+}
