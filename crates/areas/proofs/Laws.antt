@@ -1,13 +1,16 @@
--- What callers use of `copied` and `exchanged`: what fits is copied, an area's whole length replaces it, and lengths stay. Assumes nothing.
+-- What callers use of `copied` and `exchanged`: what fits is copied, an area's whole length replaces it; and areas of the right size are of one size. Assumes nothing.
 use mathlib.Core.Path.{_≡_, refl, sym, ap, _∙_}
 use mathlib.Core.List.{List, [], _∷_, _++_, append-nil}
 use Prim.Native.Nat.{ℕ, _≤_}
-use lib.ListN.{length, drop, length-append, length-drop}
+use lib.ListN.{length, drop}
 use lib.Seq.{drop-length}
 use native.Mathlib.Omega.{arith}
-use borrow.Author.Tests.{le-ltb, eq-eqb}
+use borrow.Author.Tests.{le-ltb, eq-eqb, eqb-true}
+use mathlib.Core.Bool.{true}
+use Rattle.choice.specs.Pick.{_and_}
 use Rattle.choice.proofs.Picks.{yes, no}
-use Rattle.areas.specs.Areas.{copied, exchanged}
+use Rattle.choice.proofs.Tests.{both, join}
+use Rattle.areas.specs.Areas.{sized, copied, exchanged}
 
 pub copied-fits : (s d : List ℕ) → length s ≤ length d → copied s d ≡ s ++ drop (length s) d
 unfolding copied
@@ -23,3 +26,11 @@ copied-whole s d e =
 pub exchanged-whole : (a b : List ℕ) → length b ≡ length a → exchanged a b ≡ b ∷ a ∷ []
 unfolding exchanged
 exchanged-whole a b e = sym (yes _ (eq-eqb _ _ e) refl)
+
+-- two areas of the right size are of one
+pub same-size : (a b : List ℕ) → sized a and sized b ≡ true → length b ≡ length a
+unfolding sized
+same-size a b h = eqb-true _ _ (both h .1) ∙ sym (eqb-true _ _ (both h .0))
+
+pub same-sizes : (a o x : List ℕ) → sized a and sized o and sized x ≡ true → (length o ≡ length a) × (length a ≡ length x)
+same-sizes a o x h = (same-size a o (both h .0), same-size x a (join (both h .1) (both (both h .0) .0)))

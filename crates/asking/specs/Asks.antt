@@ -5,9 +5,10 @@ use mathlib.Core.Bool.{Bool, true, not}
 use lib.Dec.{eqb, leb, ltb}
 use Rattle.choice.specs.Pick.{pick, _and_, _or_}
 use Rattle.phases.specs.Phases.{none, remove, updates, ready, undo, recoverRemove, recovered}
-use Rattle.record.specs.Whole.{top}
+use Rattle.record.specs.Fields.{top}
 use Rattle.record.specs.Fields.{withTicket, withPlace, withBatch, spent, adopting}
-use Rattle.record.specs.Answers.{Told, answer, refuse, gateOf, gated}
+use Rattle.record.specs.Answers.{Told, answer, refuse}
+use Rattle.wholeness.specs.Gates.{gateOf, gated}
 use Rattle.record.specs.declared.Record.{Record}
 use Rattle.record.specs.declared.Live.{Live}
 use Rattle.record.specs.declared.Live.the-variants.{Structure, Update, Rollback}

@@ -1,12 +1,12 @@
 // The asks, as steps on the record alone: whether work is due, and a ticket for it. Asking counts as starting.
 use phases::Phase;
 use record::Answer;
-use record::Gate;
-use record::Lent;
 use record::Live;
 use record::Record;
 use record::Refusal;
 use record::Stepped;
+use wholeness::Gate;
+use wholeness::Lent;
 ghost use mathlib.Core.Path.{_≡_};
 ghost use Rattle.record.specs.Answers.{tells};
 ghost use Rattle.asking.specs.Asks.{askStructureStep, askUpdateStep, askRollbackStep, turned};
@@ -15,7 +15,7 @@ ghost use Rattle.asking.specs.Asks.{askStructureStep, askUpdateStep, ask
 pub fn ask_structure(r: Record, lent: Lent) -> Stepped
     ensures { λ s. ⌜ tells s ≡ askStructureStep (lent .sized) (lent .sound) r ⌝ }
 {
-    let gate = r.gate(lent);
+    let gate = wholeness::admit(r, lent);
     if let Gate::Shut(why) = gate {
         return r.refuse(why);
     }
@@ -46,7 +46,7 @@ pub fn ask_structure(r: Record, lent: Lent) -> Stepped
 pub fn ask_update(r: Record, lent: Lent) -> Stepped
     ensures { λ s. ⌜ tells s ≡ askUpdateStep (lent .sized) (lent .sound) r ⌝ }
 {
-    let gate = r.gate(lent);
+    let gate = wholeness::admit(r, lent);
     if let Gate::Shut(why) = gate {
         return r.refuse(why);
     }
@@ -92,7 +92,7 @@ fn turned(r: Record, to: u8) -> Record
 pub fn ask_rollback(r: Record, lent: Lent) -> Stepped
     ensures { λ s. ⌜ tells s ≡ askRollbackStep (lent .sized) (lent .sound) r ⌝ }
 {
-    let gate = r.gate(lent);
+    let gate = wholeness::admit(r, lent);
     if let Gate::Shut(why) = gate {
         return r.refuse(why);
     }

@@ -1,10 +1,9 @@
--- Document 01, "What a call answers": the number and the values of each answer, what a call tells, and the refusals that every
--- call begins with. Assumes nothing.
+-- Document 01, "What a call answers": the number and the values of each answer, and what a call tells. Assumes nothing.
 use Prim.Native.Nat.{ℕ}
-use mathlib.Core.Bool.{Bool, not}
+use mathlib.Core.Bool.{Bool}
 use mathlib.Core.List.{List, [], _∷_}
 use lib.Dec.{leb}
-use Rattle.choice.specs.Pick.{pick, _and_}
+use Rattle.choice.specs.Pick.{_and_}
 use Rattle.record.specs.declared.Record.{Record}
 use Rattle.record.specs.declared.Stepped.{Stepped}
 use Rattle.record.specs.declared.Answer.{Answer}
@@ -13,9 +12,6 @@ use Rattle.record.specs.declared.Was.{Was}
 use Rattle.record.specs.declared.Was.the-variants.{Nothing, One, Three}
 use Rattle.record.specs.declared.Refusal.{Refusal}
 use Rattle.record.specs.declared.Refusal.the-variants.{Pending, Idle, Capacity, NotReady, Recovering, BadArea, Damaged, TooLong, TooMany, Stale, Worn, LogFull, NoStatus}
-use Rattle.record.specs.declared.Gate.{Gate}
-use Rattle.record.specs.declared.Gate.the-variants.{Open, Shut}
-use Rattle.record.specs.Whole.{whole}
 
 -- the table's column "No.", for the refusals
 abbrev pub refusalNumber : Refusal → ℕ
@@ -79,11 +75,3 @@ answer a r = told (says a) r
 -- "A refusal .. returns the record equal"
 abbrev pub refuse : Refusal → Record → Told
 refuse why r = answer (Refused why) r
-
--- "Order: 6, 7, then the call's own in the order below": over all that the call is lent together
-unfoldable pub gateOf : Bool → Bool → Record → Gate
-gateOf sized sound r = pick (not sized) (Shut BadArea) (pick (sound and whole r) Open (Shut Damaged))
-
-unfoldable pub gated : Gate → Record → Told → Told
-gated Open r own = own
-gated (Shut why) r own = refuse why r

@@ -104,6 +104,10 @@ withLengths accepted candidate recovery r = record {
   live = r .live;
 }
 
+-- the largest u64
+abbrev pub top : ℕ
+top = 18446744073709551615
+
 -- the live ticket ends
 abbrev pub spent : Record → Record
 spent r = withTicket (r .serial) None r

@@ -1,4 +1,4 @@
 pub mod Live
-pub mod Whole
 pub mod Fields
 pub mod Answers
+pub mod Leaves

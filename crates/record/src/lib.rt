@@ -1,12 +1,11 @@
-// The record of a transaction: what is kept between calls, by value; its wholeness; and what calls answer.
+// The record of a transaction: what is kept between calls, by value; and what calls answer.
 mod answers;
 mod tickets;
-mod whole;
 
 use phases::Phase;
 ghost use mathlib.Core.Path.{_≡_};
 ghost use Rattle.record.specs.Fields.{withTicket, adopting};
-ghost use Rattle.record.specs.Answers.{refuse, tells, gateOf};
+ghost use Rattle.record.specs.Answers.{refuse, tells};
 
 // The largest u64: no revision is committed over it, and no serial is given past it.
 pub const MAX: u64 = 18446744073709551615;
@@ -83,18 +82,6 @@ pub struct Stepped {
     pub state: Record,
 }
 
-// What was found of all that a call is lent together: that every size is right, and that what is read in it is sound.
-pub struct Lent {
-    pub sized: bool,
-    pub sound: bool,
-}
-
-// Whether a call goes on to its own refusals.
-pub enum Gate {
-    Open,
-    Shut(Refusal),
-}
-
 impl Record {
     // The same record with another serial and live ticket.
     pub fn with_ticket(self, serial: u64, live: Live) -> Record
@@ -136,20 +123,6 @@ impl Record {
         Stepped {
             answer: Answer::Refused(why),
             state: self,
-        }
-    }
-
-    // The refusals that every call begins with, in their order.
-    pub fn gate(self, lent: Lent) -> Gate
-        ensures { λ g. ⌜ g ≡ gateOf (lent .sized) (lent .sound) self ⌝ }
-    {
-        if !lent.sized {
-            return Gate::Shut(Refusal::BadArea);
-        }
-        if lent.sound & self.whole() {
-            Gate::Open
-        } else {
-            Gate::Shut(Refusal::Damaged)
         }
     }
 }

@@ -6,14 +6,14 @@ use native.Mathlib.Omega.{arith}
 use Rattle.choice.specs.Pick.{pick}
 use Rattle.phases.proofs.Laws.{successor-small}
 use Rattle.record.specs.Live.{isLive, structure, rollback}
-use Rattle.record.specs.Answers.{gateOf}
+use Rattle.wholeness.specs.Gates.{gateOf}
 use Rattle.record.specs.declared.Record.{Record}
-use Rattle.record.specs.declared.Gate.{Gate}
-use Rattle.record.specs.declared.Gate.the-variants.{Open, Shut}
+use Rattle.wholeness.specs.declared.Gate.{Gate}
+use Rattle.wholeness.specs.declared.Gate.the-variants.{Open, Shut}
 use Rattle.record.specs.declared.Refusal.{Refusal}
 use Rattle.record.specs.declared.Refusal.the-variants.{Stale}
-use Rattle.record.proofs.Facts.{Parts, counts-of, forward-small, back-small, live-structure, live-rollback, restoring-all}
-use Rattle.record.proofs.Facts as facts
+use Rattle.wholeness.proofs.Facts.{Parts, counts-of, forward-small, back-small, live-structure, live-rollback, restoring-all}
+use Rattle.wholeness.proofs.Facts as facts
 use Rattle.reporting.specs.Reports.{reportGate, behind}
 
 -- the first gate, which is the definition's d, was shut, or open and the second decides

@@ -6,10 +6,11 @@ use Rattle.choice.specs.Pick.{pick, _or_}
 use Rattle.areas.specs.Areas.{long}
 use Rattle.record.specs.Live.{isLive, structure, update, rollback}
 use Rattle.record.specs.Fields.{withLengths, spent}
-use Rattle.record.specs.Answers.{Told, answer, refuse, gateOf, gated}
+use Rattle.record.specs.Answers.{Told, answer, refuse}
+use Rattle.wholeness.specs.Gates.{gateOf, gated}
 use Rattle.record.specs.declared.Record.{Record}
-use Rattle.record.specs.declared.Gate.{Gate}
-use Rattle.record.specs.declared.Gate.the-variants.{Open, Shut}
+use Rattle.wholeness.specs.declared.Gate.{Gate}
+use Rattle.wholeness.specs.declared.Gate.the-variants.{Open, Shut}
 use Rattle.record.specs.declared.Outcome.{Outcome}
 use Rattle.record.specs.declared.Outcome.the-variants as O
 use Rattle.record.specs.declared.Answer.the-variants.{Waiting, Failed}

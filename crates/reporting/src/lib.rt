@@ -5,8 +5,6 @@ mod structure;
 mod update;
 
 use record::Answer;
-use record::Gate;
-use record::Lent;
 use record::Outcome;
 use record::Record;
 use record::Refusal;
@@ -14,6 +12,8 @@ use record::Stepped;
 pub use rollback::report_rollback;
 pub use structure::report_structure;
 pub use update::report_update;
+use wholeness::Gate;
+use wholeness::Lent;
 ghost use mathlib.Core.Path.{_≡_};
 ghost use Rattle.record.specs.Answers.{tells};
 ghost use Rattle.reporting.specs.Reports.{reportGate, reported};
@@ -22,7 +22,7 @@ ghost use Rattle.reporting.specs.Reports.{reportGate, reported};
 fn report_gate(r: Record, lent: Lent, kind: u8, ticket: u64) -> Gate
     ensures { λ g. ⌜ g ≡ reportGate (lent .sized) (lent .sound) r kind ticket ⌝ }
 {
-    let gate = r.gate(lent);
+    let gate = wholeness::admit(r, lent);
     if let Gate::Shut(why) = gate {
         return Gate::Shut(why);
     }

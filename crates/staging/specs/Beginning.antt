@@ -5,9 +5,10 @@ use lib.Dec.{eqb, ltb}
 use Rattle.choice.specs.Pick.{pick, _or_}
 use Rattle.areas.specs.Areas.{long}
 use Rattle.batch.specs.Batch.{limit}
-use Rattle.record.specs.Whole.{top}
+use Rattle.record.specs.Fields.{top}
 use Rattle.record.specs.Fields.{withPlace, withBatch, withSettings, withLengths, spent}
-use Rattle.record.specs.Answers.{Told, answer, refuse, gateOf, gated}
+use Rattle.record.specs.Answers.{Told, answer, refuse}
+use Rattle.wholeness.specs.Gates.{gateOf, gated}
 use Rattle.record.specs.declared.Record.{Record}
 use Rattle.record.specs.declared.Answer.the-variants.{Done}
 use Rattle.record.specs.declared.Was.the-variants.{Nothing}

@@ -1,4 +1,2 @@
 pub mod Opening
 pub mod Beginning
-pub mod Ending
-pub mod Stamping

@@ -1,12 +1,12 @@
 // Beginning a transaction, and editing what is staged.
 use record::Answer;
-use record::Gate;
-use record::Lent;
 use record::Live;
 use record::Record;
 use record::Refusal;
 use record::Stepped;
 use record::Was;
+use wholeness::Gate;
+use wholeness::Lent;
 ghost use mathlib.Core.Path.{_≡_};
 ghost use Rattle.record.specs.Answers.{tells};
 ghost use Rattle.staging.specs.Beginning.{begun, beginStep, editStep};
@@ -39,7 +39,7 @@ pub fn begin(
 ) -> Stepped
     ensures { λ s. ⌜ tells s ≡ beginStep (lent .sized) (lent .sound) phase r candidate recovery actions ⌝ }
 {
-    let gate = r.gate(lent);
+    let gate = wholeness::admit(r, lent);
     if let Gate::Shut(why) = gate {
         return r.refuse(why);
     }
@@ -65,7 +65,7 @@ pub fn begin(
 pub fn edit(r: Record, lent: Lent, candidate: usize, recovery: usize) -> Stepped
     ensures { λ s. ⌜ tells s ≡ editStep (lent .sized) (lent .sound) r candidate recovery ⌝ }
 {
-    let gate = r.gate(lent);
+    let gate = wholeness::admit(r, lent);
     if let Gate::Shut(why) = gate {
         return r.refuse(why);
     }

@@ -6,14 +6,14 @@ use Rattle.choice.proofs.Picks.{yes, no}
 use Rattle.choice.proofs.Tests.{branches}
 use Rattle.record.specs.Answers.{answer}
 use Rattle.record.specs.declared.Answer.the-variants.{Ticket}
-use Rattle.record.proofs.Gates.{shut, opened}
+use Rattle.wholeness.proofs.Passing.{shut, opened}
 use Rattle.asking.specs.Asks.{askStructureOwn}
 use borrow.Author.Needs.{needs}
 use Rattle.asking.proofs.ask_structure.Statement.{statement}
 use Rattle.asking.proofs.ask_structure.Tie as tie
 
-gate-requires : tie.Need-gate-requires
-gate-requires c κs = search needs
+admit-requires : tie.Need-admit-requires
+admit-requires c κs = search needs
 
 enum-known-gate : tie.Need-enum-known-gate
 enum-known-gate c = search needs
@@ -22,7 +22,7 @@ refuse-requires : tie.Need-refuse-requires
 refuse-requires c κs = search needs
 
 returns : tie.Need-returns
-returns c = shut _ (c .before .before .before .before .gate .ensures) (c .before .before .gate2 .given .1) (c .refuse .ensures)
+returns c = shut _ (c .before .before .before .before .admit .ensures) (c .before .before .gate .given .1) (c .refuse .ensures)
 
 enum-told : tie.Need-enum-told
 enum-told c = search needs
@@ -32,11 +32,11 @@ refuse-requires-2 c κs = search needs
 
 returns-2 : tie.Need-returns-2
 unfolding askStructureOwn _or_
-returns-2 c = opened _ (c .before .before .before .before .gate .ensures) (c .before .before .enum-told .given .1) (yes _ (search branches) (c .refuse2 .ensures))
+returns-2 c = opened _ (c .before .before .before .before .admit .ensures) (c .before .before .enum-told .given .1) (yes _ (search branches) (c .refuse2 .ensures))
 
 returns-3 : tie.Need-returns-3
 unfolding askStructureOwn _or_
-returns-3 c = opened _ (c .before .before .before .before .gate .ensures) (c .before .before .enum-told .given .1) (no _ (search branches) (yes _ (search branches) refl))
+returns-3 c = opened _ (c .before .before .before .before .admit .ensures) (c .before .before .enum-told .given .1) (no _ (search branches) (yes _ (search branches) refl))
 
 refuse-requires-3 : tie.Need-refuse-requires-3
 refuse-requires-3 c κs = search needs
@@ -44,7 +44,7 @@ refuse-requires-3 c κs = search needs
 returns-4 : tie.Need-returns-4
 unfolding askStructureOwn _or_
 returns-4 c =
-    opened _ (c .before .before .before .before .before .before .before .gate .ensures) (c .before .before .before .before .before .enum-told .given .1) (no _ (search branches) (no _ (search branches) (yes _ (search branches) (c .refuse3 .ensures))))
+    opened _ (c .before .before .before .before .before .before .before .admit .ensures) (c .before .before .before .before .before .enum-told .given .1) (no _ (search branches) (no _ (search branches) (yes _ (search branches) (c .refuse3 .ensures))))
 
 add-number : tie.Need-add-number
 add-number c = search needs
@@ -59,14 +59,14 @@ returns-5 : tie.Need-returns-5
 unfolding askStructureOwn _or_
 returns-5 c =
     let r = c .before .before .before .before .before .before .before .before .before .args .r in
-    opened _ (c .before .before .before .before .before .before .before .before .gate .ensures) (c .before .before .before .before .before .before .enum-told .given .1)
+    opened _ (c .before .before .before .before .before .before .before .before .admit .ensures) (c .before .before .before .before .before .before .enum-told .given .1)
     (no _ (search branches) (no _ (search branches) (no _ (search branches) (ap (answer (Ticket (r .serial + 1) (r .phase .number))) (c .with-ticket .ensures)))))
 
 pub ask-structure-spec : {M : Type 1} → statement M
 ask-structure-spec =
     tie.close
     (tie.spec
-    gate-requires
+    admit-requires
     enum-known-gate
     refuse-requires
     returns

@@ -7,15 +7,15 @@ use borrow.Author.Needs.{needs}
 use Rattle.reporting.proofs.report_gate.Statement.{statement}
 use Rattle.reporting.proofs.report_gate.Tie as tie
 
-gate-requires : tie.Need-gate-requires
-gate-requires c κs = search needs
+admit-requires : tie.Need-admit-requires
+admit-requires c κs = search needs
 
 enum-known-gate : tie.Need-enum-known-gate
 enum-known-gate c = search needs
 
 returns : tie.Need-returns
 unfolding reportGate
-returns c = first-shut _ (c .before .before .before .gate .ensures) (c .before .gate2 .given .1)
+returns c = first-shut _ (c .before .before .before .admit .ensures) (c .before .gate .given .1)
 
 enum-told : tie.Need-enum-told
 enum-told c = search needs
@@ -25,13 +25,13 @@ is-requires c κs = search needs
 
 returns-2 : tie.Need-returns-2
 unfolding reportGate
-returns-2 c = first-open (c .before .before .before .before .gate .ensures) (c .before .before .enum-told .given .1) (yes _ (told (c .before .is .ensures) (c .if1 .taken)) refl)
+returns-2 c = first-open (c .before .before .before .before .admit .ensures) (c .before .before .enum-told .given .1) (yes _ (told (c .before .is .ensures) (c .if1 .taken)) refl)
 
 returns-3 : tie.Need-returns-3
 unfolding reportGate
-returns-3 c = first-open (c .before .before .before .before .gate .ensures) (c .before .before .enum-told .given .1) (no _ (told (c .before .is .ensures) (c .if1 .left)) refl)
+returns-3 c = first-open (c .before .before .before .before .admit .ensures) (c .before .before .enum-told .given .1) (no _ (told (c .before .is .ensures) (c .if1 .left)) refl)
 
 pub report-gate-spec : {M : Type 1} → statement M
 report-gate-spec =
     tie.close
-    (tie.spec gate-requires enum-known-gate returns enum-told is-requires returns-2 returns-3)
+    (tie.spec admit-requires enum-known-gate returns enum-told is-requires returns-2 returns-3)

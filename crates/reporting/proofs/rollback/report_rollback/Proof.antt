@@ -1,7 +1,7 @@
 -- `reporting::rollback::report_rollback` meets its contract. Assumes nothing.
 use mathlib.Core.Path.{ap, _∙_}
 use Rattle.record.specs.declared.Record.{Record}
-use Rattle.record.proofs.Gates.{shut, opened}
+use Rattle.wholeness.proofs.Passing.{shut, opened}
 use Rattle.reporting.specs.Done.{rollbackDone}
 use Rattle.reporting.specs.Reports.{reported}
 use Rattle.reporting.proofs.Admitted.{rollback-room}

@@ -5,7 +5,7 @@ use Rattle.choice.proofs.Picks.{yes, no}
 use Rattle.choice.proofs.Tests.{branches}
 use Rattle.areas.specs.Areas.{long}
 use Rattle.record.specs.declared.Record.{Record}
-use Rattle.record.proofs.Gates.{shut, opened}
+use Rattle.wholeness.proofs.Passing.{shut, opened}
 use Rattle.reporting.specs.Done.{structureDone}
 use Rattle.reporting.specs.Reports.{reported, reportStructureOwn}
 use Rattle.reporting.proofs.Admitted.{structure-room}

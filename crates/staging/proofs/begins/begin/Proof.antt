@@ -7,14 +7,14 @@ use Rattle.areas.specs.Areas.{long}
 use Rattle.record.specs.Answers.{answer}
 use Rattle.record.specs.declared.Answer.the-variants.{Done}
 use Rattle.record.specs.declared.Was.the-variants.{Nothing}
-use Rattle.record.proofs.Gates.{shut, opened}
+use Rattle.wholeness.proofs.Passing.{shut, opened}
 use Rattle.staging.specs.Beginning.{beginOwn}
 use borrow.Author.Needs.{needs}
 use Rattle.staging.proofs.begins.begin.Statement.{statement}
 use Rattle.staging.proofs.begins.begin.Tie as tie
 
-gate-requires : tie.Need-gate-requires
-gate-requires c κs = search needs
+admit-requires : tie.Need-admit-requires
+admit-requires c κs = search needs
 
 enum-known-gate : tie.Need-enum-known-gate
 enum-known-gate c = search needs
@@ -23,7 +23,7 @@ refuse-requires : tie.Need-refuse-requires
 refuse-requires c κs = search needs
 
 returns : tie.Need-returns
-returns c = shut _ (c .before .before .before .before .gate .ensures) (c .before .before .gate2 .given .1) (c .refuse .ensures)
+returns c = shut _ (c .before .before .before .before .admit .ensures) (c .before .before .gate .given .1) (c .refuse .ensures)
 
 enum-told : tie.Need-enum-told
 enum-told c = search needs
@@ -33,7 +33,7 @@ refuse-requires-2 c κs = search needs
 
 returns-2 : tie.Need-returns-2
 unfolding beginOwn
-returns-2 c = opened _ (c .before .before .before .before .gate .ensures) (c .before .before .enum-told .given .1) (yes _ (c .before .if1 .taken) (c .refuse2 .ensures))
+returns-2 c = opened _ (c .before .before .before .before .admit .ensures) (c .before .before .enum-told .given .1) (yes _ (c .before .if1 .taken) (c .refuse2 .ensures))
 
 refuse-requires-3 : tie.Need-refuse-requires-3
 refuse-requires-3 c κs = search needs
@@ -41,7 +41,7 @@ refuse-requires-3 c κs = search needs
 returns-3 : tie.Need-returns-3
 unfolding beginOwn
 returns-3 c =
-    opened _ (c .before .before .before .before .before .before .gate .ensures) (c .before .before .before .before .enum-told .given .1) (no _ (c .before .before .before .if1 .left) (yes _ (search branches) (c .refuse3 .ensures)))
+    opened _ (c .before .before .before .before .before .before .admit .ensures) (c .before .before .before .before .enum-told .given .1) (no _ (c .before .before .before .if1 .left) (yes _ (search branches) (c .refuse3 .ensures)))
 
 refuse-requires-4 : tie.Need-refuse-requires-4
 refuse-requires-4 c κs = search needs
@@ -49,7 +49,7 @@ refuse-requires-4 c κs = search needs
 returns-4 : tie.Need-returns-4
 unfolding beginOwn long _or_
 returns-4 c =
-    opened _ (c .before .before .before .before .before .before .before .gate .ensures) (c .before .before .before .before .before .enum-told .given .1) (no _ (c .before .before .before .before .if1 .left) (no _ (search branches) (yes _ (c .before .if3 .taken) (c .refuse4 .ensures))))
+    opened _ (c .before .before .before .before .before .before .before .admit .ensures) (c .before .before .before .before .before .enum-told .given .1) (no _ (c .before .before .before .before .if1 .left) (no _ (search branches) (yes _ (c .before .if3 .taken) (c .refuse4 .ensures))))
 
 refuse-requires-5 : tie.Need-refuse-requires-5
 refuse-requires-5 c κs = search needs
@@ -57,7 +57,7 @@ refuse-requires-5 c κs = search needs
 returns-5 : tie.Need-returns-5
 unfolding beginOwn long _or_
 returns-5 c =
-    opened _ (c .before .before .before .before .before .before .before .before .gate .ensures) (c .before .before .before .before .before .before .enum-told .given .1)
+    opened _ (c .before .before .before .before .before .before .before .before .admit .ensures) (c .before .before .before .before .before .before .enum-told .given .1)
     (no _ (c .before .before .before .before .before .if1 .left) (no _ (search branches) (no _ (c .before .before .if3 .left) (yes _ (search branches) (c .refuse5 .ensures)))))
 
 cast-begun : tie.Need-cast-begun
@@ -69,14 +69,14 @@ begun-requires c κs = search needs
 returns-6 : tie.Need-returns-6
 unfolding beginOwn long _or_
 returns-6 c =
-    opened _ (c .before .before .before .before .before .before .before .before .gate .ensures) (c .before .before .before .before .before .before .enum-told .given .1)
+    opened _ (c .before .before .before .before .before .before .before .before .admit .ensures) (c .before .before .before .before .before .before .enum-told .given .1)
     (no _ (c .before .before .before .before .before .if1 .left) (no _ (search branches) (no _ (c .before .before .if3 .left) (no _ (search branches) (ap (answer (Done Nothing)) (c .begun .ensures))))))
 
 pub begin-spec : {M : Type 1} → statement M
 begin-spec =
     tie.close
     (tie.spec
-    gate-requires
+    admit-requires
     enum-known-gate
     refuse-requires
     returns

@@ -1,0 +1,114 @@
+// Opening, beginning a transaction and editing what is staged, with what is lent.
+use phases::Phase;
+use record::Record;
+use record::Stepped;
+use staging::Opening;
+use wholeness::Lent;
+ghost use mathlib.Core.Path.{_≡_};
+ghost use mathlib.Core.List.{_∷_, []};
+ghost use Rattle.phases.specs.Phases.{none, remove};
+ghost use Rattle.record.specs.Answers.{tells};
+ghost use Rattle.record.specs.Leaves.{leaves};
+ghost use Rattle.begins.specs.Opens.{openLeaves};
+ghost use Rattle.begins.specs.Begins.{beginLeaves, editLeaves};
+
+// A new record, with an accepted payload.
+pub fn open(given: Opening, accepted: &mut [u8], payload: &[u8]) -> Stepped
+    ensures { λ s. ⌜ leaves (tells s) (now (accepted .exit) ∷ []) ≡ openLeaves (given .revision) (given .serial) (now (accepted .entry)) (now (payload .entry)) ⌝ }
+{
+    let stepped = staging::open(accepted.len() == areas::SIZE, given, payload.len());
+    let answer = stepped.answer;
+    if answer.is_refused() {
+        return stepped;
+    }
+    areas::copy_bytes(accepted, payload);
+    stepped
+}
+
+// Stages a candidate payload (`new`), a recovery payload (`old`) and the pairs of a batch, in a first phase.
+fn begin_in(
+    phase: u8,
+    r: Record,
+    candidate: &mut [u8],
+    recovery: &mut [u8],
+    table: &mut [u64],
+    new: &[u8],
+    old: &[u8],
+    pairs: &[u64],
+) -> Stepped
+    ensures { λ s. ⌜ leaves (tells s) (now (candidate .exit) ∷ now (recovery .exit) ∷ now (table .exit) ∷ []) ≡ beginLeaves phase r (now (candidate .entry)) (now (recovery .entry)) (now (table .entry)) (now (new .entry)) (now (old .entry)) (now (pairs .entry)) ⌝ }
+{
+    let lent = Lent {
+        sized: (candidate.len() == areas::SIZE)
+            & (recovery.len() == areas::SIZE)
+            & (table.len() == batch::WORDS)
+            & (pairs.len() % 2 == 0),
+        sound: true,
+    };
+    let stepped = staging::begin(r, lent, phase, new.len(), old.len(), pairs.len() / 2);
+    let answer = stepped.answer;
+    if answer.is_refused() {
+        return stepped;
+    }
+    areas::copy_bytes(candidate, new);
+    areas::copy_bytes(recovery, old);
+    batch::put_pairs(table, pairs);
+    stepped
+}
+
+// An update-only transaction.
+pub fn begin(
+    r: Record,
+    candidate: &mut [u8],
+    recovery: &mut [u8],
+    table: &mut [u64],
+    new: &[u8],
+    old: &[u8],
+    pairs: &[u64],
+) -> Stepped
+    ensures { λ s. ⌜ leaves (tells s) (now (candidate .exit) ∷ now (recovery .exit) ∷ now (table .exit) ∷ []) ≡ beginLeaves none r (now (candidate .entry)) (now (recovery .entry)) (now (table .entry)) (now (new .entry)) (now (old .entry)) (now (pairs .entry)) ⌝ }
+{
+    begin_in(Phase::NONE, r, candidate, recovery, table, new, old, pairs)
+}
+
+// A structural transaction: the phases 1 to 7 stand about its updates.
+pub fn begin_structural(
+    r: Record,
+    candidate: &mut [u8],
+    recovery: &mut [u8],
+    table: &mut [u64],
+    new: &[u8],
+    old: &[u8],
+    pairs: &[u64],
+) -> Stepped
+    ensures { λ s. ⌜ leaves (tells s) (now (candidate .exit) ∷ now (recovery .exit) ∷ now (table .exit) ∷ []) ≡ beginLeaves remove r (now (candidate .entry)) (now (recovery .entry)) (now (table .entry)) (now (new .entry)) (now (old .entry)) (now (pairs .entry)) ⌝ }
+{
+    begin_in(
+        Phase::REMOVE,
+        r,
+        candidate,
+        recovery,
+        table,
+        new,
+        old,
+        pairs,
+    )
+}
+
+// Replaces both staged payloads.
+pub fn edit(r: Record, candidate: &mut [u8], recovery: &mut [u8], new: &[u8], old: &[u8]) -> Stepped
+    ensures { λ s. ⌜ leaves (tells s) (now (candidate .exit) ∷ now (recovery .exit) ∷ []) ≡ editLeaves r (now (candidate .entry)) (now (recovery .entry)) (now (new .entry)) (now (old .entry)) ⌝ }
+{
+    let lent = Lent {
+        sized: (candidate.len() == areas::SIZE) & (recovery.len() == areas::SIZE),
+        sound: true,
+    };
+    let stepped = staging::edit(r, lent, new.len(), old.len());
+    let answer = stepped.answer;
+    if answer.is_refused() {
+        return stepped;
+    }
+    areas::copy_bytes(candidate, new);
+    areas::copy_bytes(recovery, old);
+    stepped
+}

@@ -1,0 +1,86 @@
+// Ending a transaction by a commit or a recovery, and refreshing what is accepted. Areas are exchanged whole, so that what was
+// accepted is handed back.
+use record::Record;
+use record::Stepped;
+use wholeness::Lent;
+ghost use mathlib.Core.Path.{_≡_};
+ghost use mathlib.Core.List.{_∷_, []};
+ghost use Rattle.record.specs.Answers.{tells};
+ghost use Rattle.record.specs.Leaves.{leaves};
+ghost use Rattle.ends.specs.Ends.{commitLeaves, recoverLeaves, recoverRetainedLeaves, refreshLeaves};
+
+// The candidate becomes the accepted payload.
+pub fn commit(r: Record, accepted: &mut [u8], candidate: &mut [u8]) -> Stepped
+    ensures { λ s. ⌜ leaves (tells s) (now (accepted .exit) ∷ now (candidate .exit) ∷ []) ≡ commitLeaves r (now (accepted .entry)) (now (candidate .entry)) ⌝ }
+{
+    let lent = Lent {
+        sized: (accepted.len() == areas::SIZE) & (candidate.len() == areas::SIZE),
+        sound: true,
+    };
+    let stepped = settling::commit(r, lent);
+    let answer = stepped.answer;
+    if answer.is_refused() {
+        return stepped;
+    }
+    areas::exchange(accepted, candidate);
+    stepped
+}
+
+// The snapshot in the exchange area becomes the accepted payload.
+pub fn recover(r: Record, accepted: &mut [u8], exchange: &mut [u8], length: usize) -> Stepped
+    ensures { λ s. ⌜ leaves (tells s) (now (accepted .exit) ∷ now (exchange .exit) ∷ []) ≡ recoverLeaves r (now (accepted .entry)) (now (exchange .entry)) length ⌝ }
+{
+    let lent = Lent {
+        sized: (accepted.len() == areas::SIZE) & (exchange.len() == areas::SIZE),
+        sound: true,
+    };
+    let stepped = settling::recover(r, lent, length);
+    let answer = stepped.answer;
+    if answer.is_refused() {
+        return stepped;
+    }
+    areas::exchange(accepted, exchange);
+    stepped
+}
+
+// The retained recovery payload becomes the accepted one, and stays; what was accepted is handed back in the exchange area.
+pub fn recover_retained(
+    r: Record,
+    accepted: &mut [u8],
+    recovery: &[u8],
+    exchange: &mut [u8],
+) -> Stepped
+    ensures { λ s. ⌜ leaves (tells s) (now (accepted .exit) ∷ now (recovery .exit) ∷ now (exchange .exit) ∷ []) ≡ recoverRetainedLeaves r (now (accepted .entry)) (now (recovery .entry)) (now (exchange .entry)) ⌝ }
+{
+    let lent = Lent {
+        sized: (accepted.len() == areas::SIZE)
+            & (recovery.len() == areas::SIZE)
+            & (exchange.len() == areas::SIZE),
+        sound: true,
+    };
+    let stepped = settling::recover_retained(r, lent);
+    let answer = stepped.answer;
+    if answer.is_refused() {
+        return stepped;
+    }
+    areas::copy_bytes(exchange, accepted);
+    areas::copy_bytes(accepted, recovery);
+    stepped
+}
+
+// The snapshot in the exchange area replaces the accepted payload; no revision is made.
+pub fn refresh(r: Record, accepted: &mut [u8], exchange: &mut [u8], length: usize) -> Stepped
+    ensures { λ s. ⌜ leaves (tells s) (now (accepted .exit) ∷ now (exchange .exit) ∷ []) ≡ refreshLeaves r (now (accepted .entry)) (now (exchange .entry)) length ⌝ }
+{
+    let lent = Lent {
+        sized: (accepted.len() == areas::SIZE) & (exchange.len() == areas::SIZE),
+        sound: true,
+    };
+    let stepped = settling::refresh(r, lent, length);
+    let answer = stepped.answer;
+    if answer.is_refused() {
+        return stepped;
+    }
+    areas::exchange(accepted, exchange);
+    stepped
+}

@@ -1,0 +1,42 @@
+-- `reports::report_update` meets its contract. Assumes nothing.
+use mathlib.Core.List.{List, [], _∷_}
+use mathlib.Core.Path.{ap}
+use Prim.Native.Nat.{ℕ}
+use Rattle.batch.specs.Batch.{tableSized}
+use Rattle.reports.specs.Reports.{reportUpdateLeaves}
+use Rattle.wholeness.proofs.Moves.{kept, moves}
+use borrow.Author.Needs.{needs}
+use Rattle.reports.proofs.report_update.Statement.{statement}
+use Rattle.reports.proofs.report_update.Tie as tie
+
+report-update-requires : tie.Need-report-update-requires
+report-update-requires c κs = search needs
+
+is-refused-requires : tie.Need-is-refused-requires
+is-refused-requires c κs = search needs
+
+returns : tie.Need-returns
+unfolding reportUpdateLeaves tableSized
+returns c = kept (c .before .before .report-update .result) (c .before .before .report-update .ensures) (c .before .is-refused .ensures) _ (c .if1 .taken)
+
+store-requires : tie.Need-store-requires
+store-requires c κs = search needs
+
+same-length : tie.Need-same-length
+same-length c = search needs
+
+returns-2 : tie.Need-returns-2
+unfolding reportUpdateLeaves tableSized
+returns-2 c =
+    moves (c .before .before .before .before .before .before .report-update .result) (c .before .before .before .before .before .before .report-update .ensures) (c .before .before .before .before .before .is-refused .ensures) _ (c .before .before .before .before .if1 .left) (ap (λ (l : List ℕ). l ∷ []) (c .before .before .store .ensures))
+
+pub report-update-spec : {M : Type 1} → statement M
+report-update-spec =
+    tie.close
+    (tie.spec
+    report-update-requires
+    is-refused-requires
+    returns
+    store-requires
+    same-length
+    returns-2)

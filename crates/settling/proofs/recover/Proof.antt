@@ -1,0 +1,86 @@
+-- `settling::recover` meets its contract: a return for each test of the definition. Assumes nothing.
+use mathlib.Core.Path.{ap}
+use Rattle.choice.proofs.Picks.{yes, no, told}
+use Rattle.choice.proofs.Tests.{branches}
+use Rattle.areas.specs.Areas.{long}
+use Rattle.record.specs.Answers.{answer}
+use Rattle.record.specs.declared.Answer.the-variants.{Done}
+use Rattle.record.specs.declared.Was.the-variants.{Three}
+use Rattle.wholeness.proofs.Passing.{shut, opened}
+use Rattle.settling.specs.Ending.{recoverOwn}
+use borrow.Author.Needs.{needs}
+use Rattle.settling.proofs.recover.Statement.{statement}
+use Rattle.settling.proofs.recover.Tie as tie
+
+admit-requires : tie.Need-admit-requires
+admit-requires c κs = search needs
+
+enum-known-gate : tie.Need-enum-known-gate
+enum-known-gate c = search needs
+
+refuse-requires : tie.Need-refuse-requires
+refuse-requires c κs = search needs
+
+returns : tie.Need-returns
+returns c = shut _ (c .before .before .before .before .admit .ensures) (c .before .before .gate .given .1) (c .refuse .ensures)
+
+enum-told : tie.Need-enum-told
+enum-told c = search needs
+
+refuse-requires-2 : tie.Need-refuse-requires-2
+refuse-requires-2 c κs = search needs
+
+returns-2 : tie.Need-returns-2
+unfolding recoverOwn
+returns-2 c = opened _ (c .before .before .before .before .before .admit .ensures) (c .before .before .before .enum-told .given .1) (yes _ (c .before .if1 .taken) (c .refuse2 .ensures))
+
+recovering-requires : tie.Need-recovering-requires
+recovering-requires c κs = search needs
+
+refuse-requires-3 : tie.Need-refuse-requires-3
+refuse-requires-3 c κs = search needs
+
+returns-3 : tie.Need-returns-3
+unfolding recoverOwn
+returns-3 c =
+    opened _ (c .before .before .before .before .before .before .before .admit .ensures) (c .before .before .before .before .before .enum-told .given .1)
+    (no _ (c .before .before .before .if1 .left) (yes _ (told (c .before .before .recovering .ensures) (c .before .if2 .taken)) (c .refuse3 .ensures)))
+
+refuse-requires-4 : tie.Need-refuse-requires-4
+refuse-requires-4 c κs = search needs
+
+returns-4 : tie.Need-returns-4
+unfolding recoverOwn long
+returns-4 c =
+    opened _ (c .before .before .before .before .before .before .before .before .admit .ensures) (c .before .before .before .before .before .before .enum-told .given .1)
+    (no _ (c .before .before .before .before .if1 .left) (no _ (told (c .before .before .before .recovering .ensures) (c .before .before .if2 .left)) (yes _ (search branches) (c .refuse4 .ensures))))
+
+settled-requires : tie.Need-settled-requires
+settled-requires c κs = search needs
+
+returns-5 : tie.Need-returns-5
+unfolding recoverOwn long
+returns-5 c =
+    let r = c .before .before .before .before .before .before .before .before .before .args .r in
+    opened _ (c .before .before .before .before .before .before .before .before .admit .ensures) (c .before .before .before .before .before .before .enum-told .given .1)
+    (no _ (c .before .before .before .before .if1 .left) (no _ (told (c .before .before .before .recovering .ensures) (c .before .before .if2 .left)) (no _ (search branches)
+    (ap (answer (Done (Three (r .accepted) (r .candidate) (r .recovery)))) (c .settled .ensures)))))
+
+pub recover-spec : {M : Type 1} → statement M
+recover-spec =
+    tie.close
+    (tie.spec
+    admit-requires
+    enum-known-gate
+    refuse-requires
+    returns
+    enum-told
+    refuse-requires-2
+    returns-2
+    recovering-requires
+    refuse-requires-3
+    returns-3
+    refuse-requires-4
+    returns-4
+    settled-requires
+    returns-5)

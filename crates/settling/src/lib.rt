@@ -1,0 +1,125 @@
+// Ending a transaction: commit, the two recoveries; and refresh, which replaces the accepted payload while nothing is staged.
+use phases::Phase;
+use record::Answer;
+use record::Live;
+use record::Record;
+use record::Refusal;
+use record::Stepped;
+use record::Was;
+use wholeness::Gate;
+use wholeness::Lent;
+ghost use mathlib.Core.Path.{_≡_};
+ghost use Rattle.record.specs.Answers.{tells};
+ghost use Rattle.settling.specs.Ending.{settled, recovering, commitStep, recoverStep, recoverRetainedStep, refreshStep};
+
+// The idle record after a commit or a recovery.
+fn settled(mut r: Record, revision: u64, accepted: usize) -> Record
+    ensures { λ s. ⌜ s ≡ settled revision accepted r ⌝ }
+{
+    r.revision = revision;
+    r.accepted = accepted;
+    r.candidate = 0;
+    r.recovery = 0;
+    r.staged = false;
+    r.phase.number = Phase::NONE;
+    r.forward = 0;
+    r.back = 0;
+    r.entries = 0;
+    r.applied = 0;
+    r.attempted = 0;
+    r.restoring = false;
+    r.with_ticket(r.serial, Live::None)
+}
+
+// The candidate becomes the accepted payload.
+pub fn commit(r: Record, lent: Lent) -> Stepped
+    ensures { λ s. ⌜ tells s ≡ commitStep (lent .sized) (lent .sound) r ⌝ }
+{
+    let gate = wholeness::admit(r, lent);
+    if let Gate::Shut(why) = gate {
+        return r.refuse(why);
+    }
+    if !r.staged {
+        return r.refuse(Refusal::Idle);
+    }
+    let p = r.phase.number;
+    if !wholeness::complete(r) | !((p == Phase::NONE) | (p == Phase::READY)) {
+        return r.refuse(Refusal::NotReady);
+    }
+    Stepped {
+        answer: Answer::Done(Was::Three(r.accepted, r.recovery, r.entries as usize)),
+        state: settled(r, r.revision + 1, r.candidate),
+    }
+}
+
+// Whether something is left to undo before a recovery.
+fn recovering(r: Record) -> bool
+    ensures { λ b. ⌜ b ≡ recovering r ⌝ }
+{
+    (0 < r.entries) | !((r.phase.number == Phase::NONE) | (r.phase.number == Phase::RECOVERED))
+}
+
+// A snapshot of a length, in the exchange area, becomes the accepted payload.
+pub fn recover(r: Record, lent: Lent, length: usize) -> Stepped
+    ensures { λ s. ⌜ tells s ≡ recoverStep (lent .sized) (lent .sound) r length ⌝ }
+{
+    let gate = wholeness::admit(r, lent);
+    if let Gate::Shut(why) = gate {
+        return r.refuse(why);
+    }
+    if !r.staged {
+        return r.refuse(Refusal::Idle);
+    }
+    if recovering(r) {
+        return r.refuse(Refusal::NotReady);
+    }
+    if areas::SIZE < length {
+        return r.refuse(Refusal::TooLong);
+    }
+    Stepped {
+        answer: Answer::Done(Was::Three(r.accepted, r.candidate, r.recovery)),
+        state: settled(r, r.revision, length),
+    }
+}
+
+// The retained recovery payload becomes the accepted one.
+pub fn recover_retained(r: Record, lent: Lent) -> Stepped
+    ensures { λ s. ⌜ tells s ≡ recoverRetainedStep (lent .sized) (lent .sound) r ⌝ }
+{
+    let gate = wholeness::admit(r, lent);
+    if let Gate::Shut(why) = gate {
+        return r.refuse(why);
+    }
+    if !r.staged {
+        return r.refuse(Refusal::Idle);
+    }
+    if recovering(r) {
+        return r.refuse(Refusal::NotReady);
+    }
+    Stepped {
+        answer: Answer::Done(Was::Three(r.accepted, r.candidate, r.recovery)),
+        state: settled(r, r.revision, r.recovery),
+    }
+}
+
+// A snapshot of a length, in the exchange area, replaces the accepted payload; no revision is made.
+pub fn refresh(r: Record, lent: Lent, length: usize) -> Stepped
+    ensures { λ s. ⌜ tells s ≡ refreshStep (lent .sized) (lent .sound) r length ⌝ }
+{
+    let gate = wholeness::admit(r, lent);
+    if let Gate::Shut(why) = gate {
+        return r.refuse(why);
+    }
+    if r.staged {
+        return r.refuse(Refusal::Pending);
+    }
+    if areas::SIZE < length {
+        return r.refuse(Refusal::TooLong);
+    }
+    let mut fresh = r;
+    fresh.accepted = length;
+    Stepped {
+        answer: Answer::Done(Was::One(r.accepted)),
+        state: fresh,
+    }
+}

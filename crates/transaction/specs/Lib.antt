@@ -1,5 +1,0 @@
-pub mod Leaves
-pub mod Opens
-pub mod Begins
-pub mod Reports
-pub mod Ends

@@ -1,0 +1,26 @@
+-- `wholeness::admit` meets its contract. Assumes nothing.
+use mathlib.Core.Path.{refl}
+use Rattle.choice.specs.Pick.{_and_}
+use Rattle.choice.proofs.Picks.{yes, no}
+use Rattle.wholeness.specs.Gates.{gateOf}
+use borrow.Author.Needs.{needs}
+use Rattle.wholeness.proofs.admit.Statement.{statement}
+use Rattle.wholeness.proofs.admit.Tie as tie
+
+returns : tie.Need-returns
+unfolding gateOf _and_
+returns c = yes _ (c .if1 .taken) refl
+
+whole-requires : tie.Need-whole-requires
+whole-requires c κs = search needs
+
+returns-2 : tie.Need-returns-2
+unfolding gateOf _and_
+returns-2 c = no _ (c .before .before .before .if1 .left) (yes _ (cc) refl)
+
+returns-3 : tie.Need-returns-3
+unfolding gateOf _and_
+returns-3 c = no _ (c .before .before .before .if1 .left) (no _ (cc) refl)
+
+pub admit-spec : {M : Type 1} → statement M
+admit-spec = tie.close (tie.spec returns whole-requires returns-2 returns-3)

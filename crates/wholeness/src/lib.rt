@@ -1,0 +1,139 @@
+// When a record is whole, and when it is complete; and the refusals that every call begins with.
+use phases::Phase;
+use record::Live;
+use record::MAX;
+use record::Record;
+use record::Refusal;
+ghost use mathlib.Core.Path.{_≡_};
+ghost use Rattle.wholeness.specs.Whole.{lengthsFit, countsFit, stagedFits, forwardFits, backFits, restoringFits, liveFits, whole, complete};
+ghost use Rattle.wholeness.specs.Gates.{gateOf};
+
+// What was found of all that a call is lent together: that every size is right, and that what is read in it is sound.
+pub struct Lent {
+    pub sized: bool,
+    pub sound: bool,
+}
+
+// Whether a call goes on to its own refusals.
+pub enum Gate {
+    Open,
+    Shut(Refusal),
+}
+
+fn lengths_fit(r: Record) -> bool
+    ensures { λ b. ⌜ b ≡ lengthsFit (r .accepted) (r .candidate) (r .recovery) ⌝ }
+{
+    (r.accepted <= areas::SIZE) & (r.candidate <= areas::SIZE) & (r.recovery <= areas::SIZE)
+}
+
+fn counts_fit(r: Record) -> bool
+    ensures { λ b. ⌜ b ≡ countsFit (r .entries) (r .applied) (r .attempted) ⌝ }
+{
+    ((r.entries as usize) <= batch::LIMIT)
+        & (r.applied <= r.attempted)
+        & ((r.attempted as u64) <= (r.applied as u64) + 1)
+        & (r.attempted <= r.entries)
+}
+
+fn staged_fits(r: Record) -> bool
+    ensures { λ b. ⌜ b ≡ stagedFits (r .staged) (r .revision) (r .phase .number) (r .entries) (r .live) ⌝ }
+{
+    let live = r.live;
+    (!r.staged | (r.revision < MAX))
+        & (r.staged
+            | ((r.phase.number == Phase::NONE) & (r.entries == 0) & (live.kind() == Live::NONE)))
+}
+
+fn forward_fits(r: Record) -> bool
+    ensures { λ b. ⌜ b ≡ forwardFits (r .phase .number) (r .forward) ⌝ }
+{
+    let p = r.phase.number;
+    let f = r.forward;
+    ((p <= Phase::REMOVE) & (f == 0))
+        | ((p == Phase::SETTLE_REMOVED) & (f == 1))
+        | ((p == Phase::MOUNT) & (f == 2))
+        | ((p == Phase::SETTLE_MOUNTED) & (f == 3))
+        | ((p == Phase::UPDATES) & (f == 4))
+        | ((p == Phase::ADOPT) & (f == 4))
+        | ((p == Phase::READY) & (f == 5))
+        | ((p == Phase::UNDO) & ((f == 4) | (f == 5)))
+        | ((Phase::RECOVER_REMOVE <= p) & (f <= 5))
+}
+
+fn back_fits(r: Record) -> bool
+    ensures { λ b. ⌜ b ≡ backFits (r .phase .number) (r .back) ⌝ }
+{
+    let p = r.phase.number;
+    let b = r.back;
+    ((p <= Phase::RECOVER_REMOVE) & (b == 0))
+        | ((p == Phase::RECOVER_SETTLE_REMOVED) & (b == 1))
+        | ((p == Phase::RECOVER_MOUNT) & (b == 2))
+        | ((p == Phase::RECOVER_SETTLE_MOUNTED) & (b == 3))
+        | ((p == Phase::RECOVERED) & (b == 4))
+}
+
+fn restoring_fits(r: Record) -> bool
+    ensures { λ b. ⌜ b ≡ restoringFits (r .restoring) (r .phase .number) (r .entries) (r .applied) (r .attempted) ⌝ }
+{
+    let p = r.phase.number;
+    (!r.restoring | (r.attempted == r.entries))
+        & (!((Phase::REMOVE <= p) & (p <= Phase::READY)) | !r.restoring)
+        & (!((Phase::REMOVE <= p) & (p <= Phase::SETTLE_MOUNTED)) | (r.attempted == 0))
+        & (!(p == Phase::UPDATES) | ((r.applied < r.entries) | (r.entries == 0)))
+        & (!((p == Phase::ADOPT) | (p == Phase::READY)) | (r.applied == r.entries))
+        & (!(Phase::UNDO <= p) | r.restoring)
+        & (!(p == Phase::UNDO) | (0 < r.entries))
+        & (!(Phase::RECOVER_REMOVE <= p) | (r.entries == 0))
+}
+
+fn live_fits(r: Record) -> bool
+    ensures { λ b. ⌜ b ≡ liveFits (r .live) (r .serial) (r .restoring) (r .phase .number) (r .entries) (r .applied) (r .attempted) ⌝ }
+{
+    let p = r.phase.number;
+    let live = r.live;
+    let kind = live.kind();
+    (kind == Live::NONE)
+        | ((live.number() == r.serial)
+            & (1 <= r.serial)
+            & (!(kind == Live::STRUCTURE) | r.phase.has_successor())
+            & (!(kind == Live::UPDATE)
+                | (((p == Phase::NONE) | (p == Phase::UPDATES))
+                    & !r.restoring
+                    & ((r.attempted as u64) == (r.applied as u64) + 1)))
+            & (!(kind == Live::ROLLBACK) | (r.restoring & (0 < r.entries))))
+}
+
+// The record is one that document 01's calls can leave, or the like; any other is Damaged.
+pub fn whole(r: Record) -> bool
+    ensures { λ b. ⌜ b ≡ whole r ⌝ }
+{
+    lengths_fit(r)
+        & counts_fit(r)
+        & staged_fits(r)
+        & (r.phase.number <= Phase::RECOVERED)
+        & forward_fits(r)
+        & back_fits(r)
+        & restoring_fits(r)
+        & live_fits(r)
+}
+
+// Every action is applied, and nothing is being undone.
+pub fn complete(r: Record) -> bool
+    ensures { λ b. ⌜ b ≡ complete r ⌝ }
+{
+    !r.restoring & (r.applied == r.entries)
+}
+
+// The refusals that every call begins with, in their order.
+pub fn admit(r: Record, lent: Lent) -> Gate
+    ensures { λ g. ⌜ g ≡ gateOf (lent .sized) (lent .sound) r ⌝ }
+{
+    if !lent.sized {
+        return Gate::Shut(Refusal::BadArea);
+    }
+    if lent.sound & whole(r) {
+        Gate::Open
+    } else {
+        Gate::Shut(Refusal::Damaged)
+    }
+}
