@@ -1,7 +1,7 @@
 -- What an answer says determines it, and so does what a call tells; refusals are told by their numbers. Assumes nothing.
 use Prim.Native.Nat.{ℕ}
 use mathlib.Core.Path.{_≡_, refl, sym, _∙_, ap}
-use mathlib.Core.Bool.{Bool, true}
+use mathlib.Core.Bool.{true}
 use mathlib.Core.List.{List, [], _∷_}
 use lib.Dec.{eqb}
 use lib.ListN.{getD}
@@ -17,13 +17,13 @@ use Rattle.record.specs.declared.Refusal.{Refusal}
 use Rattle.record.specs.declared.Refusal.the-variants.{Pending, Idle, Capacity, NotReady, Recovering, BadArea, Damaged, TooLong, TooMany, Stale, Worn, LogFull, NoStatus}
 
 -- the refusal of a number
-refusalOf : ℕ → Refusal
+pub refusalOf : ℕ → Refusal
 refusalOf n =
     pick (eqb n 1) Pending (pick (eqb n 2) Idle (pick (eqb n 3) Capacity (pick (eqb n 4) NotReady (pick (eqb n 5) Recovering
     (pick (eqb n 6) BadArea (pick (eqb n 7) Damaged (pick (eqb n 8) TooLong (pick (eqb n 9) TooMany (pick (eqb n 10) Stale
     (pick (eqb n 11) Worn (pick (eqb n 12) LogFull NoStatus)))))))))))
 
-refusal-back : (why : Refusal) → refusalOf (refusalNumber why) ≡ why
+pub refusal-back : (why : Refusal) → refusalOf (refusalNumber why) ≡ why
 unfolding refusalOf pick
 refusal-back Pending = refl
 refusal-back Idle = refl
@@ -97,10 +97,7 @@ tells-one s t e =
     ap (λ (a : Answer). step a (s .state)) (says-one (s .answer) (t .answer) (ap (λ (d : Told). said (d .number) (d .values)) e))
     ∙ ap (step (t .answer)) (ap (λ (d : Told). d .state) e)
 
--- whether an answer is a refusal, by its number
-abbrev pub refuses : Answer → Bool
-refuses a = refused (says a .number)
-
+-- every refusal's number is one
 pub refused-number : (why : Refusal) → refused (refusalNumber why) ≡ true
 unfolding refused _and_
 refused-number Pending = refl
@@ -116,6 +113,3 @@ refused-number Stale = refl
 refused-number Worn = refl
 refused-number LogFull = refl
 refused-number NoStatus = refl
-
-pub refused-of : {a : Answer} {why : Refusal} → a ≡ Refused why → refuses a ≡ true
-refused-of {why = why} h = ap refuses h ∙ refused-number why

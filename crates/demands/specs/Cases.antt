@@ -1,0 +1,100 @@
+-- Document 01, "Cases on each side": P1 to P12, each a record to start from and what the calls on it answer. Assumes nothing.
+use Prim.Native.Nat.{ℕ}
+use mathlib.Core.Bool.{Bool, true, false, _&&_}
+use mathlib.Core.List.{List, [], _∷_, _++_}
+use lib.Dec.{eqb}
+use Rattle.phases.specs.Phases.{none, recoverRemove}
+use Rattle.record.specs.Fields.{top}
+use Rattle.record.specs.Answers.{Told, Said, said, says}
+use Rattle.record.specs.declared.Record.{Record}
+use Rattle.record.specs.declared.Outcome.the-variants as O
+use Rattle.record.specs.declared.Answer.the-variants.{Done, Refused, Ticket, Waiting, More, Finished}
+use Rattle.record.specs.declared.Was.the-variants.{Nothing, Three}
+use Rattle.record.specs.declared.Refusal.the-variants.{Capacity, NotReady, Recovering, Damaged, Stale}
+use Rattle.staging.specs.Opening.{opening}
+use Rattle.staging.specs.Beginning.{begun}
+use Rattle.demands.specs.Calls.{Call, step}
+use Rattle.demands.specs.Calls.Call.{begin, beginStructural, askStructure, askUpdate, askRollback, reportStructure, reportUpdate, reportRollback, commit, recover, recoverRetained, stamp, check}
+
+-- a call with what it must answer, or a look at the record
+infixr 25 _⇒_
+pub data Line : Type 0 where
+  _⇒_ : Call → Said → Line
+  sees : (Record → Bool) → Line
+
+pub record Case : Type 0 where
+  pub start : Record
+  pub lines : List Line
+
+abbrev pub sameValues : List ℕ → List ℕ → Bool
+sameValues [] [] = true
+sameValues [] (y ∷ ys) = false
+sameValues (x ∷ xs) [] = false
+sameValues (x ∷ xs) (y ∷ ys) = eqb x y && sameValues xs ys
+
+abbrev pub answers : Told → Said → Bool
+answers t s = eqb (t .number) (s .number) && sameValues (t .values) (s .values)
+
+-- every line holds, each call given the record that the last left
+abbrev pub plays : Record → List Line → Bool
+plays r [] = true
+plays r ((c ⇒ s) ∷ ls) = answers (step r c) s && plays (step r c .state) ls
+plays r (sees look ∷ ls) = look r && plays r ls
+
+abbrev pub done : Said
+done = says (Done Nothing)
+
+-- structure work of one phase: a ticket for it, and Done
+abbrev pub phase : ℕ → ℕ → Said → List Line
+phase ticket p last = (askStructure ⇒ says (Ticket ticket p)) ∷ (reportStructure ticket O.Done 2 2 ⇒ last) ∷ []
+
+-- "structural ..: More thrice, Finished": the phases 1 to 4
+abbrev pub mounted : List Line
+mounted = phase 1 1 (says More) ++ phase 2 2 (says More) ++ phase 3 3 (says More) ++ phase 4 4 (says Finished)
+
+abbrev pub case : Record → List Line → Case
+case r ls = record { start = r; lines = ls }
+
+unfoldable pub cases : List Case
+cases =
+    -- P1 opened at 7, domain 3: stamp (3, 7)
+    case (opening 7 0 0) ((stamp 3 ⇒ said 0 (3 ∷ 7 ∷ [])) ∷ [])
+    -- P2 idle at the u64 maximum: begin 3
+    ∷ case (opening top 0 0) ((begin 0 0 0 ⇒ says (Refused Capacity)) ∷ [])
+    -- P3 staged at that revision: 7
+    ∷ case (begun none 0 0 0 (opening top 0 0)) ((commit ⇒ says (Refused Damaged)) ∷ [])
+    -- P4 update-only, 0 actions: commit at once
+    ∷ case (opening 0 0 3) ((begin 2 2 0 ⇒ done) ∷ (commit ⇒ says (Done (Three 3 2 0))) ∷ sees (λ r. eqb (r .revision) 1) ∷ [])
+    -- P5 the same: recover at once, revision kept
+    ∷ case (opening 0 0 3) ((begin 2 2 0 ⇒ done) ∷ (recover 4 ⇒ says (Done (Three 3 2 2))) ∷ sees (λ r. eqb (r .revision) 0) ∷ [])
+    -- P6 structural, 0 actions: More thrice, Finished, ask update Finished, Adopt Finished, commit
+    ∷ case (opening 0 0 3)
+    ((beginStructural 2 2 0 ⇒ done) ∷ mounted ++ (askUpdate ⇒ says Finished) ∷ phase 5 6 (says Finished) ++ (commit ⇒ says (Done (Three 3 2 0))) ∷ [])
+    -- P7 structural, 2 actions, rollback at Mount: Finished, phase 9, then More thrice, Finished
+    ∷ case (opening 0 0 0)
+    ((beginStructural 2 2 2 ⇒ done) ∷ phase 1 1 (says More) ++ phase 2 2 (says More) ++ (askRollback ⇒ says Finished)
+    ∷ sees (λ r. eqb (r .phase .number) recoverRemove)
+    ∷ phase 3 9 (says More) ++ phase 4 10 (says More) ++ phase 5 11 (says More) ++ phase 6 12 (says Finished))
+    -- P8 update-only, 3 actions, Done, Waiting, ask rollback: entries 2, ticket for number 1; Done More, Done Finished
+    ∷ case (opening 0 0 0)
+    ((begin 2 2 3 ⇒ done) ∷ (askUpdate ⇒ says (Ticket 1 0)) ∷ (reportUpdate 1 O.Done ⇒ says More) ∷ (askUpdate ⇒ says (Ticket 2 1))
+    ∷ (reportUpdate 2 O.Waiting ⇒ says Waiting) ∷ (askRollback ⇒ says (Ticket 3 1)) ∷ sees (λ r. eqb (r .entries) 2)
+    ∷ (reportRollback 3 O.Done ⇒ says More) ∷ (askRollback ⇒ says (Ticket 4 0)) ∷ (reportRollback 4 O.Done ⇒ says Finished) ∷ [])
+    -- P9 serial 0, asked twice: ticket 1 Stale, 2 taken
+    ∷ case (opening 0 0 0)
+    ((begin 0 0 1 ⇒ done) ∷ (askUpdate ⇒ says (Ticket 1 0)) ∷ (askUpdate ⇒ says (Ticket 2 0)) ∷ (reportUpdate 1 O.Done ⇒ says (Refused Stale))
+    ∷ (reportUpdate 2 O.Done ⇒ says Finished) ∷ [])
+    -- P10 ask structure: 4 in phase 5, Finished in 7
+    ∷ case (opening 0 0 0)
+    ((beginStructural 2 2 0 ⇒ done) ∷ mounted ++ (askStructure ⇒ says (Refused NotReady)) ∷ (askUpdate ⇒ says Finished)
+    ∷ phase 5 6 (says Finished) ++ (askStructure ⇒ says Finished) ∷ [])
+    -- P11 idle rollback Finished, then ask update 5
+    ∷ case (opening 0 0 0) ((askRollback ⇒ says Finished) ∷ (askUpdate ⇒ says (Refused Recovering)) ∷ [])
+    -- P12 stamp, update-only begin without actions, recover: the stamp passes
+    ∷ case (opening 7 0 3)
+    ((stamp 3 ⇒ said 0 (3 ∷ 7 ∷ [])) ∷ (begin 2 2 0 ⇒ done) ∷ (recoverRetained ⇒ says (Done (Three 3 2 2))) ∷ (check 3 3 7 ⇒ said 0 (1 ∷ [])) ∷ [])
+    ∷ []
+
+abbrev pub holdAll : List Case → Bool
+holdAll [] = true
+holdAll (c ∷ cs) = plays (c .start) (c .lines) && holdAll cs
