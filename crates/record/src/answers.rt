@@ -1,7 +1,6 @@
 // The number that document 01 gives each answer, and which answers are refusals.
 use super::Answer;
 use super::Refusal;
-
 ghost use mathlib.Core.Path.{_≡_};
 ghost use Rattle.record.specs.Answers.{refusalNumber, says, refused};
 

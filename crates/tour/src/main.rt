@@ -71,12 +71,6 @@ fn main() {
     let Stamping::Taken(plan) = transaction::stamp(r, 3) else {
         return;
     };
-    let r = reload(
-        r,
-        &mut accepted,
-        &mut candidate,
-        &mut recovery,
-        &mut table,
-    );
+    let r = reload(r, &mut accepted, &mut candidate, &mut recovery, &mut table);
     verdict(transaction::check(r, 3, plan));
 }
