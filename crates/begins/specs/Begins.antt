@@ -1,6 +1,6 @@
 -- Document 01, "The steps": begin, begin structural and edit, with candidate and recovery areas and the table. Assumes nothing.
 use Prim.Native.Nat.{ℕ, _/_}
-use mathlib.Core.Bool.{true}
+use mathlib.Core.Bool.{Bool, true}
 use mathlib.Core.List.{List, [], _∷_}
 use lib.ListN.{length}
 use Rattle.choice.specs.Pick.{_and_}
@@ -11,9 +11,9 @@ use Rattle.staging.specs.Beginning.{beginStep, editStep}
 use Rattle.record.specs.Leaves.{Leaves, moving}
 
 -- "Copies both payloads and the pairs": c, o and t are the candidate and recovery areas and the table
-unfoldable pub beginLeaves : ℕ → Record → List ℕ → List ℕ → List ℕ → List ℕ → List ℕ → List ℕ → Leaves
-beginLeaves phase r c o t new old pairs =
-    moving (beginStep (sized c and sized o and tableSized t and paired pairs) true phase r (length new) (length old) (length pairs / 2))
+unfoldable pub beginLeaves : Bool → Record → List ℕ → List ℕ → List ℕ → List ℕ → List ℕ → List ℕ → Leaves
+beginLeaves structural r c o t new old pairs =
+    moving (beginStep (sized c and sized o and tableSized t and paired pairs) true structural r (length new) (length old) (length pairs / 2))
     (c ∷ o ∷ t ∷ [])
     (copied new c ∷ copied old o ∷ pairsIn pairs t ∷ [])
 

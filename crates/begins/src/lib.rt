@@ -1,12 +1,11 @@
 // Opening, beginning a transaction and editing what is staged, with what is lent.
-use phases::Phase;
 use record::Record;
 use record::Stepped;
 use staging::Opening;
 use wholeness::Lent;
 ghost use mathlib.Core.Path.{_≡_};
 ghost use mathlib.Core.List.{_∷_, []};
-ghost use Rattle.phases.specs.Phases.{none, remove};
+ghost use mathlib.Core.Bool.{true, false};
 ghost use Rattle.record.specs.Answers.{tells};
 ghost use Rattle.record.specs.Leaves.{leaves};
 ghost use Rattle.begins.specs.Opens.{openLeaves};
@@ -25,9 +24,9 @@ pub fn open(given: Opening, accepted: &mut [u8], payload: &[u8]) -> Stepped
     stepped
 }
 
-// Stages a candidate payload (`new`), a recovery payload (`old`) and the pairs of a batch, in a first phase.
+// Stages a candidate payload (`new`), a recovery payload (`old`) and the pairs of a batch.
 fn begin_in(
-    phase: u8,
+    structural: bool,
     r: Record,
     candidate: &mut [u8],
     recovery: &mut [u8],
@@ -36,7 +35,7 @@ fn begin_in(
     old: &[u8],
     pairs: &[u64],
 ) -> Stepped
-    ensures { λ s. ⌜ leaves (tells s) (now (candidate .exit) ∷ now (recovery .exit) ∷ now (table .exit) ∷ []) ≡ beginLeaves phase r (now (candidate .entry)) (now (recovery .entry)) (now (table .entry)) (now (new .entry)) (now (old .entry)) (now (pairs .entry)) ⌝ }
+    ensures { λ s. ⌜ leaves (tells s) (now (candidate .exit) ∷ now (recovery .exit) ∷ now (table .exit) ∷ []) ≡ beginLeaves structural r (now (candidate .entry)) (now (recovery .entry)) (now (table .entry)) (now (new .entry)) (now (old .entry)) (now (pairs .entry)) ⌝ }
 {
     let lent = Lent {
         sized: (candidate.len() == areas::SIZE)
@@ -45,7 +44,7 @@ fn begin_in(
             & (pairs.len() % 2 == 0),
         sound: true,
     };
-    let stepped = staging::begin(r, lent, phase, new.len(), old.len(), pairs.len() / 2);
+    let stepped = staging::begin(r, lent, structural, new.len(), old.len(), pairs.len() / 2);
     let answer = stepped.answer;
     if answer.is_refused() {
         return stepped;
@@ -66,9 +65,9 @@ pub fn begin(
     old: &[u8],
     pairs: &[u64],
 ) -> Stepped
-    ensures { λ s. ⌜ leaves (tells s) (now (candidate .exit) ∷ now (recovery .exit) ∷ now (table .exit) ∷ []) ≡ beginLeaves none r (now (candidate .entry)) (now (recovery .entry)) (now (table .entry)) (now (new .entry)) (now (old .entry)) (now (pairs .entry)) ⌝ }
+    ensures { λ s. ⌜ leaves (tells s) (now (candidate .exit) ∷ now (recovery .exit) ∷ now (table .exit) ∷ []) ≡ beginLeaves false r (now (candidate .entry)) (now (recovery .entry)) (now (table .entry)) (now (new .entry)) (now (old .entry)) (now (pairs .entry)) ⌝ }
 {
-    begin_in(Phase::NONE, r, candidate, recovery, table, new, old, pairs)
+    begin_in(false, r, candidate, recovery, table, new, old, pairs)
 }
 
 // A structural transaction: the phases 1 to 7 stand about its updates.
@@ -81,18 +80,9 @@ pub fn begin_structural(
     old: &[u8],
     pairs: &[u64],
 ) -> Stepped
-    ensures { λ s. ⌜ leaves (tells s) (now (candidate .exit) ∷ now (recovery .exit) ∷ now (table .exit) ∷ []) ≡ beginLeaves remove r (now (candidate .entry)) (now (recovery .entry)) (now (table .entry)) (now (new .entry)) (now (old .entry)) (now (pairs .entry)) ⌝ }
+    ensures { λ s. ⌜ leaves (tells s) (now (candidate .exit) ∷ now (recovery .exit) ∷ now (table .exit) ∷ []) ≡ beginLeaves true r (now (candidate .entry)) (now (recovery .entry)) (now (table .entry)) (now (new .entry)) (now (old .entry)) (now (pairs .entry)) ⌝ }
 {
-    begin_in(
-        Phase::REMOVE,
-        r,
-        candidate,
-        recovery,
-        table,
-        new,
-        old,
-        pairs,
-    )
+    begin_in(true, r, candidate, recovery, table, new, old, pairs)
 }
 
 // Replaces both staged payloads.

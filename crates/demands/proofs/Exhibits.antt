@@ -40,7 +40,7 @@ phases =
     ∷ staged 13 4 4 0 0 0 true None
     ∷ []
 
--- idle, restoring without a ticket, and each kind of live ticket
+-- idle, and each kind of live ticket
 pub kinds : List Record
 kinds = opening 7 1 3 ∷ staged 1 0 0 3 0 0 false (Structure 1) ∷ staged 5 4 0 3 0 1 false (Update 1) ∷ staged 0 0 0 2 1 2 true (Rollback 1) ∷ []
 

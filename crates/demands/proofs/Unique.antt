@@ -1,11 +1,15 @@
 -- Every promise is an equation, and each determines what its function answers and leaves. Assumes nothing.
 use Prim.Native.Nat.{ℕ}
-use mathlib.Core.Path.{_≡_, refl, sym, _∙_, ap}
-use mathlib.Core.List.{List}
-use Rattle.record.specs.Answers.{Told, tells}
+use mathlib.Core.Path.{_≡_, sym, _∙_, ap}
+use mathlib.Core.List.{List, _∷_}
+use Rattle.record.specs.Answers.{Told, Said, tells}
 use Rattle.record.specs.Leaves.{Leaves, leaves}
 use Rattle.record.specs.declared.Stepped.{Stepped}
 use Rattle.record.proofs.Saying.{tells-one}
+use Rattle.stamping.specs.Stamping.{saysStamping, saysChecked}
+use Rattle.stamping.specs.declared.Stamping.{Stamping}
+use Rattle.stamping.specs.declared.Checked.{Checked}
+use Rattle.stamping.proofs.Saying.{stamping-one, checked-one}
 
 -- a promise of the form x ≡ d
 pub one : {A : Type 0} {d x y : A} → x ≡ d → y ≡ d → x ≡ y
@@ -20,3 +24,14 @@ pub one-left : (d : Leaves) (s t : Stepped) (l m : List (List ℕ)) → leaves (
 one-left d s t l m p q =
     let e = one p q in
     (tells-one s t (ap (λ (x : Leaves). x .told) e), ap (λ (x : Leaves). x .lent) e)
+
+-- each list of an equal row of lists is equal
+pub one-row : {a b : List ℕ} {l m : List (List ℕ)} → a ∷ l ≡ b ∷ m → (a ≡ b) × (l ≡ m)
+one-row e = (cc, cc)
+
+-- of the forms saysStamping a ≡ d and saysChecked a ≡ d
+pub one-stamping : (d : Said) (a b : Stamping) → saysStamping a ≡ d → saysStamping b ≡ d → a ≡ b
+one-stamping d a b p q = stamping-one a b (one p q)
+
+pub one-checked : (d : Said) (a b : Checked) → saysChecked a ≡ d → saysChecked b ≡ d → a ≡ b
+one-checked d a b p q = checked-one a b (one p q)

@@ -1,8 +1,7 @@
 -- The calls of document 01 as one type, payloads by their lengths, and one step over it: the log aside and every area of the
 -- right size. Opening is no step: it starts a chain. Assumes nothing.
 use Prim.Native.Nat.{ℕ}
-use mathlib.Core.Bool.{true}
-use Rattle.phases.specs.Phases.{none, remove}
+use mathlib.Core.Bool.{true, false}
 use Rattle.record.specs.Answers.{Told, told}
 use Rattle.record.specs.declared.Record.{Record}
 use Rattle.record.specs.declared.Outcome.{Outcome}
@@ -23,11 +22,11 @@ pub data Call : Type 0 where
   recoverRetained : Call
   refresh : (length : ℕ) → Call
   stamp : (domain : ℕ) → Call
-  check : (domain d revision : ℕ) → Call
+  check : (domain stampDomain stampRevision : ℕ) → Call
 
 unfoldable pub step : Record → Call → Told
-step r (begin c o n) = beginStep true true none r c o n
-step r (beginStructural c o n) = beginStep true true remove r c o n
+step r (begin c o n) = beginStep true true false r c o n
+step r (beginStructural c o n) = beginStep true true true r c o n
 step r askStructure = askStructureStep true true r
 step r askUpdate = askUpdateStep true true r
 step r askRollback = askRollbackStep true true r
@@ -39,5 +38,5 @@ step r commit = commitStep true true r
 step r (recover n) = recoverStep true true r n
 step r recoverRetained = recoverRetainedStep true true r
 step r (refresh n) = refreshStep true true r n
-step r (stamp d) = told (stampStep r d) r
-step r (check d e v) = told (checkStep r d e v) r
+step r (stamp domain) = told (stampStep r domain) r
+step r (check domain d v) = told (checkStep r domain d v) r

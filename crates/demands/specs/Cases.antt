@@ -11,10 +11,10 @@ use Rattle.record.specs.declared.Outcome.the-variants as O
 use Rattle.record.specs.declared.Answer.the-variants.{Done, Refused, Ticket, Waiting, More, Finished}
 use Rattle.record.specs.declared.Was.the-variants.{Nothing, Three}
 use Rattle.record.specs.declared.Refusal.the-variants.{Capacity, NotReady, Recovering, Damaged, Stale}
-use Rattle.staging.specs.Opening.{opening}
+use Rattle.staging.specs.Opening.{opening, openStep}
 use Rattle.staging.specs.Beginning.{begun}
 use Rattle.demands.specs.Calls.{Call, step}
-use Rattle.demands.specs.Calls.Call.{begin, beginStructural, askStructure, askUpdate, askRollback, reportStructure, reportUpdate, reportRollback, commit, recover, recoverRetained, stamp, check}
+use Rattle.demands.specs.Calls.Call.{begin, beginStructural, askStructure, askUpdate, askRollback, reportStructure, reportUpdate, reportRollback, commit, recover, stamp, check}
 
 -- a call with what it must answer, or a look at the record
 infixr 25 _⇒_
@@ -58,7 +58,7 @@ case r ls = record { start = r; lines = ls }
 unfoldable pub cases : List Case
 cases =
     -- P1 opened at 7, domain 3: stamp (3, 7)
-    case (opening 7 0 0) ((stamp 3 ⇒ said 0 (3 ∷ 7 ∷ [])) ∷ [])
+    case (openStep true 7 0 0 .state) ((stamp 3 ⇒ said 0 (3 ∷ 7 ∷ [])) ∷ [])
     -- P2 idle at the u64 maximum: begin 3
     ∷ case (opening top 0 0) ((begin 0 0 0 ⇒ says (Refused Capacity)) ∷ [])
     -- P3 staged at that revision: 7
@@ -92,7 +92,7 @@ cases =
     ∷ case (opening 0 0 0) ((askRollback ⇒ says Finished) ∷ (askUpdate ⇒ says (Refused Recovering)) ∷ [])
     -- P12 stamp, update-only begin without actions, recover: the stamp passes
     ∷ case (opening 7 0 3)
-    ((stamp 3 ⇒ said 0 (3 ∷ 7 ∷ [])) ∷ (begin 2 2 0 ⇒ done) ∷ (recoverRetained ⇒ says (Done (Three 3 2 2))) ∷ (check 3 3 7 ⇒ said 0 (1 ∷ [])) ∷ [])
+    ((stamp 3 ⇒ said 0 (3 ∷ 7 ∷ [])) ∷ (begin 2 2 0 ⇒ done) ∷ (recover 4 ⇒ says (Done (Three 3 2 2))) ∷ (check 3 3 7 ⇒ said 0 (1 ∷ [])) ∷ [])
     ∷ []
 
 abbrev pub holdAll : List Case → Bool

@@ -72,6 +72,6 @@ tells s = told (says (s .answer)) (s .state)
 abbrev pub answer : Answer → Record → Told
 answer a r = told (says a) r
 
--- "A refusal .. returns the record equal"
+-- demand 1: "A refusal .. returns the record equal"
 abbrev pub refuse : Refusal → Record → Told
 refuse why r = answer (Refused why) r

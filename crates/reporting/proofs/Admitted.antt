@@ -4,7 +4,6 @@ use mathlib.Core.Path.{_≡_, refl, sym, _∙_, ap}
 use mathlib.Core.Bool.{Bool, true, false}
 use native.Mathlib.Omega.{arith}
 use Rattle.choice.specs.Pick.{pick}
-use Rattle.phases.proofs.Laws.{successor-small}
 use Rattle.record.specs.Live.{isLive, structure, rollback}
 use Rattle.wholeness.specs.Gates.{gateOf}
 use Rattle.record.specs.declared.Record.{Record}
@@ -12,7 +11,7 @@ use Rattle.wholeness.specs.declared.Gate.{Gate}
 use Rattle.wholeness.specs.declared.Gate.the-variants.{Open, Shut}
 use Rattle.record.specs.declared.Refusal.{Refusal}
 use Rattle.record.specs.declared.Refusal.the-variants.{Stale}
-use Rattle.wholeness.proofs.Facts.{Parts, counts-of, forward-small, back-small, live-structure, live-rollback, restoring-all}
+use Rattle.wholeness.proofs.Facts.{Parts, counts-of, forward-small, back-small, live-rollback, restoring-all}
 use Rattle.wholeness.proofs.Facts as facts
 use Rattle.reporting.specs.Reports.{reportGate, behind}
 
@@ -43,13 +42,13 @@ module _ {g : Gate} (sized sound : Bool) (r : Record) (kind ticket : ℕ) (e : g
       both-open (gateOf sized sound r) (isLive kind ticket (r .live)) (sym e ∙ h)
       (λ o l. record { live = l; tests = facts.behind sized sound r refl o })
 
--- a structure report's phase goes on, and its counts can be raised
+-- a structure report's counts can be raised
 pub structure-room : {g : Gate} (sized sound : Bool) (r : Record) (ticket : ℕ) → g ≡ reportGate sized sound r structure ticket → g ≡ Open
-    → (r .phase .number ≤ 12) × ((r .forward ≤ 5) × (r .back ≤ 4))
+    → (r .forward ≤ 5) × (r .back ≤ 4)
 structure-room sized sound r ticket e h =
     let a = admitted sized sound r structure ticket e h in
     let t = a .tests in
-    (successor-small _ (live-structure _ ticket _ _ _ _ _ _ (t .live) (a .live)), (forward-small _ _ (t .forward), back-small _ _ (t .back)))
+    (forward-small _ _ (t .forward), back-small _ _ (t .back))
 
 -- an applied count can be raised
 pub update-room : {g : Gate} (sized sound : Bool) (r : Record) (kind ticket : ℕ) → g ≡ reportGate sized sound r kind ticket → g ≡ Open → r .applied ≤ 64

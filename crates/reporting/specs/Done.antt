@@ -2,21 +2,27 @@
 use Prim.Native.Nat.{ℕ, _+_, _-_}
 use lib.Dec.{eqb, leb, ltb}
 use Rattle.choice.specs.Pick.{pick}
-use Rattle.phases.specs.Phases.{adopt, undo, recoverRemove, boundary}
+use Rattle.phases.specs.Phases.{adopt, undo, recoverRemove, successor, boundary}
+use Rattle.phases.specs.declared.Next.{Next}
+use Rattle.phases.specs.declared.Next.the-variants.{To, Nowhere}
 use Rattle.record.specs.Fields.{withPlace, withBatch, adopting}
 use Rattle.record.specs.Answers.{Told, answer}
 use Rattle.record.specs.declared.Record.{Record}
 use Rattle.record.specs.declared.Answer.the-variants.{More, Finished}
 
--- "Done goes to the successor, raises forward (phases 1 to 6) or back (9 to 12)"; the successor is the next number
-unfoldable pub advanced : Record → Record
-advanced r =
-    withPlace (r .phase .number + 1) (pick (leb (r .phase .number) adopt) (r .forward + 1) (r .forward))
+-- "Done goes to the successor, raises forward (phases 1 to 6) or back (9 to 12)"; a live structure ticket has a phase with one
+unfoldable pub onward : Next → Record → Record
+onward (To next) r =
+    withPlace (next .number) (pick (leb (r .phase .number) adopt) (r .forward + 1) (r .forward))
     (pick (leb (r .phase .number) adopt) (r .back) (r .back + 1)) r
+onward Nowhere r = r
+
+unfoldable pub advanced : Record → Record
+advanced r = onward (successor (r .phase .number)) r
 
 -- "and answers Finished at a boundary, else More"
 unfoldable pub structureDone : Record → Told
-structureDone r = pick (boundary (r .phase .number + 1)) (answer Finished (advanced r)) (answer More (advanced r))
+structureDone r = pick (boundary (advanced r .phase .number)) (answer Finished (advanced r)) (answer More (advanced r))
 
 -- "Done raises applied"
 abbrev pub raised : Record → Record

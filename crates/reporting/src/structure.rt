@@ -1,6 +1,7 @@
 // The report of a phase's structure work.
 use super::report_gate;
 use super::reported;
+use phases::Next;
 use phases::Phase;
 use record::Answer;
 use record::Live;
@@ -18,12 +19,15 @@ ghost use Rattle.reporting.specs.Reports.{reportStructureStep};
 
 // On to the successor of the phase, and the count of that way is raised.
 fn advanced(mut r: Record) -> Record
-    requires { ⌜ (r .phase .number ≤ 12) × ((r .forward ≤ 5) × (r .back ≤ 4)) ⌝ }
+    requires { ⌜ (r .forward ≤ 5) × (r .back ≤ 4) ⌝ }
     ensures { λ s. ⌜ s ≡ advanced r ⌝ }
 {
     let p = r.phase.number;
-    let next = p + 1;
-    r.phase.number = next;
+    let found = r.phase.successor();
+    let Next::To(next) = found else {
+        return r;
+    };
+    r.phase = next;
     if p <= Phase::ADOPT {
         r.forward = r.forward + 1;
         return r;
@@ -34,7 +38,7 @@ fn advanced(mut r: Record) -> Record
 
 // The phase's work is done.
 fn structure_done(r: Record) -> Stepped
-    requires { ⌜ (r .phase .number ≤ 12) × ((r .forward ≤ 5) × (r .back ≤ 4)) ⌝ }
+    requires { ⌜ (r .forward ≤ 5) × (r .back ≤ 4) ⌝ }
     ensures { λ s. ⌜ tells s ≡ structureDone r ⌝ }
 {
     let next = advanced(r);

@@ -28,8 +28,8 @@ commitOwn r =
     (answer (Done (Three (r .accepted) (r .recovery) (r .entries))) (settled (r .revision + 1) (r .candidate) r)))
 
 -- "4 if entries > 0 or phase not 0 or 13"
-unfoldable pub recovering : Record → Bool
-recovering r = ltb 0 (r .entries) or not (eqb (r .phase .number) none or eqb (r .phase .number) recovered)
+unfoldable pub unrestored : Record → Bool
+unrestored r = ltb 0 (r .entries) or not (eqb (r .phase .number) none or eqb (r .phase .number) recovered)
 
 -- "both recoveries with the old accepted, candidate and recovery lengths"
 abbrev pub recoveredTo : ℕ → Record → Told
@@ -39,7 +39,7 @@ recoveredTo accepted r = answer (Done (Three (r .accepted) (r .candidate) (r .re
 unfoldable pub recoverOwn : Record → ℕ → Told
 recoverOwn r length =
     pick (not (r .staged)) (refuse Idle r)
-    (pick (recovering r) (refuse NotReady r)
+    (pick (unrestored r) (refuse NotReady r)
     (pick (long length) (refuse TooLong r)
     (recoveredTo length r)))
 
@@ -47,7 +47,7 @@ recoverOwn r length =
 unfoldable pub recoverRetainedOwn : Record → Told
 recoverRetainedOwn r =
     pick (not (r .staged)) (refuse Idle r)
-    (pick (recovering r) (refuse NotReady r)
+    (pick (unrestored r) (refuse NotReady r)
     (recoveredTo (r .recovery) r))
 
 -- "Refresh: 1, 8", "refresh with the old accepted one"

@@ -10,7 +10,7 @@ use wholeness::Gate;
 use wholeness::Lent;
 ghost use mathlib.Core.Path.{_≡_};
 ghost use Rattle.record.specs.Answers.{tells};
-ghost use Rattle.settling.specs.Ending.{settled, recovering, commitStep, recoverStep, recoverRetainedStep, refreshStep};
+ghost use Rattle.settling.specs.Ending.{settled, unrestored, commitStep, recoverStep, recoverRetainedStep, refreshStep};
 
 // The idle record after a commit or a recovery.
 fn settled(mut r: Record, revision: u64, accepted: usize) -> Record
@@ -52,9 +52,9 @@ pub fn commit(r: Record, lent: Lent) -> Stepped
     }
 }
 
-// Whether something is left to undo before a recovery.
-fn recovering(r: Record) -> bool
-    ensures { λ b. ⌜ b ≡ recovering r ⌝ }
+// Whether a recovery comes too early: entries are left to undo, or the way back is not at its end.
+fn unrestored(r: Record) -> bool
+    ensures { λ b. ⌜ b ≡ unrestored r ⌝ }
 {
     (0 < r.entries) | !((r.phase.number == Phase::NONE) | (r.phase.number == Phase::RECOVERED))
 }
@@ -70,7 +70,7 @@ pub fn recover(r: Record, lent: Lent, length: usize) -> Stepped
     if !r.staged {
         return r.refuse(Refusal::Idle);
     }
-    if recovering(r) {
+    if unrestored(r) {
         return r.refuse(Refusal::NotReady);
     }
     if areas::SIZE < length {
@@ -93,7 +93,7 @@ pub fn recover_retained(r: Record, lent: Lent) -> Stepped
     if !r.staged {
         return r.refuse(Refusal::Idle);
     }
-    if recovering(r) {
+    if unrestored(r) {
         return r.refuse(Refusal::NotReady);
     }
     Stepped {

@@ -1,4 +1,5 @@
 // Beginning a transaction, and editing what is staged.
+use phases::Phase;
 use record::Answer;
 use record::Live;
 use record::Record;
@@ -9,7 +10,7 @@ use wholeness::Gate;
 use wholeness::Lent;
 ghost use mathlib.Core.Path.{_≡_};
 ghost use Rattle.record.specs.Answers.{tells};
-ghost use Rattle.staging.specs.Beginning.{begun, beginStep, editStep};
+ghost use Rattle.staging.specs.Beginning.{firstPhase, begun, beginStep, editStep};
 
 // A staged record in a first phase, with every count 0 but the entries.
 fn begun(mut r: Record, phase: u8, candidate: usize, recovery: usize, entries: u32) -> Record
@@ -28,16 +29,27 @@ fn begun(mut r: Record, phase: u8, candidate: usize, recovery: usize, entries: u
     r.with_ticket(r.serial, Live::None)
 }
 
-// Begin with a first phase: none for an update-only transaction, Remove for a structural one.
+// The first phase: none for an update-only transaction, Remove for a structural one.
+fn first_phase(structural: bool) -> u8
+    ensures { λ p. ⌜ p ≡ firstPhase structural ⌝ }
+{
+    if structural {
+        Phase::REMOVE
+    } else {
+        Phase::NONE
+    }
+}
+
+// Begin, update-only or structural.
 pub fn begin(
     r: Record,
     lent: Lent,
-    phase: u8,
+    structural: bool,
     candidate: usize,
     recovery: usize,
     actions: usize,
 ) -> Stepped
-    ensures { λ s. ⌜ tells s ≡ beginStep (lent .sized) (lent .sound) phase r candidate recovery actions ⌝ }
+    ensures { λ s. ⌜ tells s ≡ beginStep (lent .sized) (lent .sound) structural r candidate recovery actions ⌝ }
 {
     let gate = wholeness::admit(r, lent);
     if let Gate::Shut(why) = gate {
@@ -55,6 +67,7 @@ pub fn begin(
     if batch::LIMIT < actions {
         return r.refuse(Refusal::TooMany);
     }
+    let phase = first_phase(structural);
     Stepped {
         answer: Answer::Done(Was::Nothing),
         state: begun(r, phase, candidate, recovery, actions as u32),

@@ -5,7 +5,6 @@ mod opens;
 pub use begins::begin;
 pub use begins::edit;
 pub use opens::open;
-use record::Refusal;
 
 // What an opening is given besides its payload.
 pub struct Opening {

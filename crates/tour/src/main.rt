@@ -1,5 +1,6 @@
 // The README's example, played on the proved calls: a plan is stamped, a reload is begun, a late report is refused, the reload
-// is committed, and the old stamp no longer passes. Each line is a call and the number of its answer.
+// is committed, and the old stamp no longer passes. Each line is a call and the number of its answer;
+// the last says 1 where the stamp passes and 0 where it does not.
 use libc::STDOUT_FILENO;
 use record::Outcome;
 use record::Record;

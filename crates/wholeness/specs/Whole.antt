@@ -1,4 +1,4 @@
--- Document 01, "What is lent and kept": when a record is whole, and when it is complete. One definition a line of the list,
+-- Document 01, "What is lent and kept": when a record is whole, and when it is complete. One definition a rule of the list,
 -- over plain fields: n entries, a applied, k attempted, p the phase, f forward, b back. Assumes nothing.
 use Prim.Native.Nat.{ℕ, _+_}
 use mathlib.Core.Bool.{Bool, not}

@@ -103,7 +103,7 @@ fn live_fits(r: Record) -> bool
             & (!(kind == Live::ROLLBACK) | (r.restoring & (0 < r.entries))))
 }
 
-// The record is one that document 01's calls can leave, or the like; any other is Damaged.
+// Whether the record is whole, as document 01 lists it; any other is Damaged.
 pub fn whole(r: Record) -> bool
     ensures { λ b. ⌜ b ≡ whole r ⌝ }
 {

@@ -34,8 +34,8 @@ returns-2 : tie.Need-returns-2
 unfolding recoverOwn
 returns-2 c = opened _ (c .before .before .before .before .before .admit .ensures) (c .before .before .before .enum-told .given .1) (yes _ (c .before .if1 .taken) (c .refuse2 .ensures))
 
-recovering-requires : tie.Need-recovering-requires
-recovering-requires c κs = search needs
+unrestored-requires : tie.Need-unrestored-requires
+unrestored-requires c κs = search needs
 
 refuse-requires-3 : tie.Need-refuse-requires-3
 refuse-requires-3 c κs = search needs
@@ -44,7 +44,7 @@ returns-3 : tie.Need-returns-3
 unfolding recoverOwn
 returns-3 c =
     opened _ (c .before .before .before .before .before .before .before .admit .ensures) (c .before .before .before .before .before .enum-told .given .1)
-    (no _ (c .before .before .before .if1 .left) (yes _ (told (c .before .before .recovering .ensures) (c .before .if2 .taken)) (c .refuse3 .ensures)))
+    (no _ (c .before .before .before .if1 .left) (yes _ (told (c .before .before .unrestored .ensures) (c .before .if2 .taken)) (c .refuse3 .ensures)))
 
 refuse-requires-4 : tie.Need-refuse-requires-4
 refuse-requires-4 c κs = search needs
@@ -53,7 +53,7 @@ returns-4 : tie.Need-returns-4
 unfolding recoverOwn long
 returns-4 c =
     opened _ (c .before .before .before .before .before .before .before .before .admit .ensures) (c .before .before .before .before .before .before .enum-told .given .1)
-    (no _ (c .before .before .before .before .if1 .left) (no _ (told (c .before .before .before .recovering .ensures) (c .before .before .if2 .left)) (yes _ (search branches) (c .refuse4 .ensures))))
+    (no _ (c .before .before .before .before .if1 .left) (no _ (told (c .before .before .before .unrestored .ensures) (c .before .before .if2 .left)) (yes _ (search branches) (c .refuse4 .ensures))))
 
 settled-requires : tie.Need-settled-requires
 settled-requires c κs = search needs
@@ -63,7 +63,7 @@ unfolding recoverOwn long
 returns-5 c =
     let r = c .before .before .before .before .before .before .before .before .before .args .r in
     opened _ (c .before .before .before .before .before .before .before .before .admit .ensures) (c .before .before .before .before .before .before .enum-told .given .1)
-    (no _ (c .before .before .before .before .if1 .left) (no _ (told (c .before .before .before .recovering .ensures) (c .before .before .if2 .left)) (no _ (search branches)
+    (no _ (c .before .before .before .before .if1 .left) (no _ (told (c .before .before .before .unrestored .ensures) (c .before .before .if2 .left)) (no _ (search branches)
     (ap (answer (Done (Three (r .accepted) (r .candidate) (r .recovery)))) (c .settled .ensures)))))
 
 pub recover-spec : {M : Type 1} → statement M
@@ -77,7 +77,7 @@ recover-spec =
     enum-told
     refuse-requires-2
     returns-2
-    recovering-requires
+    unrestored-requires
     refuse-requires-3
     returns-3
     refuse-requires-4

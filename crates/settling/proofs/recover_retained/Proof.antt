@@ -32,8 +32,8 @@ returns-2 : tie.Need-returns-2
 unfolding recoverRetainedOwn
 returns-2 c = opened _ (c .before .before .before .before .before .admit .ensures) (c .before .before .before .enum-told .given .1) (yes _ (c .before .if1 .taken) (c .refuse2 .ensures))
 
-recovering-requires : tie.Need-recovering-requires
-recovering-requires c κs = search needs
+unrestored-requires : tie.Need-unrestored-requires
+unrestored-requires c κs = search needs
 
 refuse-requires-3 : tie.Need-refuse-requires-3
 refuse-requires-3 c κs = search needs
@@ -42,7 +42,7 @@ returns-3 : tie.Need-returns-3
 unfolding recoverRetainedOwn
 returns-3 c =
     opened _ (c .before .before .before .before .before .before .before .admit .ensures) (c .before .before .before .before .before .enum-told .given .1)
-    (no _ (c .before .before .before .if1 .left) (yes _ (told (c .before .before .recovering .ensures) (c .before .if2 .taken)) (c .refuse3 .ensures)))
+    (no _ (c .before .before .before .if1 .left) (yes _ (told (c .before .before .unrestored .ensures) (c .before .if2 .taken)) (c .refuse3 .ensures)))
 
 settled-requires : tie.Need-settled-requires
 settled-requires c κs = search needs
@@ -52,7 +52,7 @@ unfolding recoverRetainedOwn
 returns-4 c =
     let r = c .before .before .before .before .before .before .before .before .args .r in
     opened _ (c .before .before .before .before .before .before .before .admit .ensures) (c .before .before .before .before .before .enum-told .given .1)
-    (no _ (c .before .before .before .if1 .left) (no _ (told (c .before .before .recovering .ensures) (c .before .if2 .left))
+    (no _ (c .before .before .before .if1 .left) (no _ (told (c .before .before .unrestored .ensures) (c .before .if2 .left))
     (ap (answer (Done (Three (r .accepted) (r .candidate) (r .recovery)))) (c .settled .ensures))))
 
 pub recover-retained-spec : {M : Type 1} → statement M
@@ -66,7 +66,7 @@ recover-retained-spec =
     enum-told
     refuse-requires-2
     returns-2
-    recovering-requires
+    unrestored-requires
     refuse-requires-3
     returns-3
     settled-requires

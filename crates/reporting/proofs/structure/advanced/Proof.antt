@@ -1,36 +1,63 @@
 -- `reporting::structure::advanced` meets its contract. Assumes nothing.
 use Prim.Native.Nat.{_+_}
 use mathlib.Core.Bool.{Bool}
-use mathlib.Core.Path.{ap, sym}
+use mathlib.Core.Path.{ap, sym, _∙_}
 use borrow.Author.Tests.{le-leb, lt-leb}
 use Rattle.choice.specs.Pick.{pick}
+use Rattle.phases.specs.declared.Phase.{Phase}
+use Rattle.phases.specs.declared.Next.{Next}
 use Rattle.record.specs.Fields.{withPlace}
 use Rattle.record.specs.declared.Record.{Record}
-use Rattle.reporting.specs.Done.{advanced}
+use Rattle.reporting.specs.Done.{onward, advanced}
 use borrow.Author.Needs.{needs}
 use Rattle.reporting.proofs.structure.advanced.Statement.{statement}
 use Rattle.reporting.proofs.structure.advanced.Tie as tie
 
 -- the record, by the test of its phase
-abbrev by : Record → Bool → Record
-by r t = withPlace (r .phase .number + 1) (pick t (r .forward + 1) (r .forward)) (pick t (r .back) (r .back + 1)) r
+abbrev by : Record → Phase → Bool → Record
+by r q t = withPlace (q .number) (pick t (r .forward + 1) (r .forward)) (pick t (r .back) (r .back + 1)) r
 
-add-next : tie.Need-add-next
-add-next c = search needs
+abbrev from : Record → Next → Record
+from r n = onward n r
+
+successor-requires : tie.Need-successor-requires
+successor-requires c κs = search needs
+
+enum-known-found : tie.Need-enum-known-found
+enum-known-found c = search needs
+
+enum-told : tie.Need-enum-told
+enum-told c = search needs
+
+returns : tie.Need-returns
+unfolding advanced onward
+returns c = ap (from (c .before .before .before .args .r)) (sym (c .enum-told .given .1) ∙ c .before .before .successor .ensures)
 
 add-r : tie.Need-add-r
 add-r c = search needs
 
-returns : tie.Need-returns
-unfolding advanced pick
-returns c = ap (by (c .before .before .before .args .r)) (sym (le-leb _ _ (c .before .if1 .taken)))
+returns-2 : tie.Need-returns-2
+unfolding advanced onward pick
+returns-2 c =
+    let r = c .before .before .before .before .before .before .args .r in ap (by r _) (sym (le-leb _ _ (c .before .if1 .taken))) ∙ ap (from r) (sym (c .before .before .before .found .given .1) ∙ c .before .before .before .before .before .successor .ensures)
 
 add-r-2 : tie.Need-add-r-2
 add-r-2 c = search needs
 
-returns-2 : tie.Need-returns-2
-unfolding advanced pick
-returns-2 c = ap (by (c .before .before .before .args .r)) (sym (lt-leb _ _ (c .before .if1 .left)))
+returns-3 : tie.Need-returns-3
+unfolding advanced onward pick
+returns-3 c =
+    let r = c .before .before .before .before .before .before .args .r in ap (by r _) (sym (lt-leb _ _ (c .before .if1 .left))) ∙ ap (from r) (sym (c .before .before .before .found .given .1) ∙ c .before .before .before .before .before .successor .ensures)
 
 pub advanced-spec : {M : Type 1} → statement M
-advanced-spec = tie.close (tie.spec add-next add-r returns add-r-2 returns-2)
+advanced-spec =
+    tie.close
+    (tie.spec
+    successor-requires
+    enum-known-found
+    enum-told
+    returns
+    add-r
+    returns-2
+    add-r-2
+    returns-3)

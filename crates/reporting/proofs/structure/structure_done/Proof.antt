@@ -6,7 +6,7 @@ use Rattle.phases.specs.Phases.{boundary}
 use Rattle.record.specs.Answers.{answer}
 use Rattle.record.specs.declared.Record.{Record}
 use Rattle.record.specs.declared.Answer.the-variants.{More, Finished}
-use Rattle.reporting.specs.Done.{advanced, structureDone}
+use Rattle.reporting.specs.Done.{structureDone}
 use borrow.Author.Needs.{needs}
 use Rattle.reporting.proofs.structure.structure_done.Statement.{statement}
 use Rattle.reporting.proofs.structure.structure_done.Tie as tie
@@ -21,12 +21,12 @@ boundary-requires : tie.Need-boundary-requires
 boundary-requires c κs = search needs
 
 returns : tie.Need-returns
-unfolding structureDone advanced
+unfolding structureDone
 returns c =
     yes _ (told (c .before .boundary .ensures ∙ ap at-boundary (c .before .before .advanced .ensures)) (c .if1 .taken)) (ap (answer Finished) (c .before .before .advanced .ensures))
 
 returns-2 : tie.Need-returns-2
-unfolding structureDone advanced
+unfolding structureDone
 returns-2 c =
     no _ (told (c .before .boundary .ensures ∙ ap at-boundary (c .before .before .advanced .ensures)) (c .if1 .left)) (ap (answer More) (c .before .before .advanced .ensures))
 

@@ -1,5 +1,6 @@
 -- `staging::begins::begin` meets its contract: a return for each test of the definition. Assumes nothing.
-use mathlib.Core.Path.{ap}
+use Prim.Native.Nat.{ℕ}
+use mathlib.Core.Path.{ap, _∙_}
 use Rattle.choice.specs.Pick.{_or_}
 use Rattle.choice.proofs.Picks.{yes, no}
 use Rattle.choice.proofs.Tests.{branches}
@@ -8,7 +9,7 @@ use Rattle.record.specs.Answers.{answer}
 use Rattle.record.specs.declared.Answer.the-variants.{Done}
 use Rattle.record.specs.declared.Was.the-variants.{Nothing}
 use Rattle.wholeness.proofs.Passing.{shut, opened}
-use Rattle.staging.specs.Beginning.{beginOwn}
+use Rattle.staging.specs.Beginning.{begun, beginOwn}
 use borrow.Author.Needs.{needs}
 use Rattle.staging.proofs.begins.begin.Statement.{statement}
 use Rattle.staging.proofs.begins.begin.Tie as tie
@@ -60,6 +61,9 @@ returns-5 c =
     opened _ (c .before .before .before .before .before .before .before .before .admit .ensures) (c .before .before .before .before .before .before .enum-told .given .1)
     (no _ (c .before .before .before .before .before .if1 .left) (no _ (search branches) (no _ (c .before .before .if3 .left) (yes _ (search branches) (c .refuse5 .ensures)))))
 
+first-phase-requires : tie.Need-first-phase-requires
+first-phase-requires c κs = search needs
+
 cast-begun : tie.Need-cast-begun
 cast-begun c = search needs
 
@@ -69,8 +73,10 @@ begun-requires c κs = search needs
 returns-6 : tie.Need-returns-6
 unfolding beginOwn long _or_
 returns-6 c =
-    opened _ (c .before .before .before .before .before .before .before .before .admit .ensures) (c .before .before .before .before .before .before .enum-told .given .1)
-    (no _ (c .before .before .before .before .before .if1 .left) (no _ (search branches) (no _ (c .before .before .if3 .left) (no _ (search branches) (ap (answer (Done Nothing)) (c .begun .ensures))))))
+    let a = c .before .before .before .before .before .before .before .before .before .before .args in
+    opened _ (c .before .before .before .before .before .before .before .before .before .admit .ensures) (c .before .before .before .before .before .before .before .enum-told .given .1)
+    (no _ (c .before .before .before .before .before .before .if1 .left) (no _ (search branches) (no _ (c .before .before .before .if3 .left) (no _ (search branches)
+    (ap (answer (Done Nothing)) (c .begun .ensures ∙ ap (λ (p : ℕ). begun p (a .candidate) (a .recovery) (a .actions) (a .r)) (c .before .first-phase .ensures)))))))
 
 pub begin-spec : {M : Type 1} → statement M
 begin-spec =
@@ -89,6 +95,7 @@ begin-spec =
     returns-4
     refuse-requires-5
     returns-5
+    first-phase-requires
     cast-begun
     begun-requires
     returns-6)
