@@ -13,6 +13,7 @@ use Rattle.record.specs.declared.Refusal.{Refusal}
 use Rattle.record.specs.declared.Refusal.the-variants.{Stale}
 use Rattle.wholeness.proofs.Facts.{Parts, counts-of, forward-small, back-small, live-rollback, restoring-all}
 use Rattle.wholeness.proofs.Facts as facts
+use Rattle.wholeness.proofs.Passing.{Passed, passed}
 use Rattle.reporting.specs.Reports.{reportGate, behind}
 
 -- the first gate, which is the definition's d, was shut, or open and the second decides
@@ -41,6 +42,12 @@ module _ {g : Gate} (sized sound : Bool) (r : Record) (kind ticket : ℕ) (e : g
   admitted =
       both-open (gateOf sized sound r) (isLive kind ticket (r .live)) (sym e ∙ h)
       (λ o l. record { live = l; tests = facts.behind sized sound r refl o })
+
+-- all that was lent was in order
+pub report-passed : (sized sound : Bool) (r : Record) (kind ticket : ℕ) → reportGate sized sound r kind ticket ≡ Open → Passed sized sound r
+unfolding reportGate
+report-passed sized sound r kind ticket h =
+    both-open (gateOf sized sound r) (isLive kind ticket (r .live)) h (λ o l. passed sized sound r refl o)
 
 -- a structure report's counts can be raised
 pub structure-room : {g : Gate} (sized sound : Bool) (r : Record) (ticket : ℕ) → g ≡ reportGate sized sound r structure ticket → g ≡ Open
