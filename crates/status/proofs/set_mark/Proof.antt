@@ -1,0 +1,32 @@
+-- `status::set_mark` meets its contract. Assumes nothing.
+use mathlib.Core.List.{List, []}
+use Prim.Native.Nat.{ℕ}
+use mathlib.Core.Path.{refl, ap, sym}
+use lib.Seq.{set-out}
+use Rattle.choice.proofs.Picks.{yes, no}
+use Rattle.record.specs.Answers.{said}
+use Rattle.status.specs.Status.{leavesMarks, put}
+use borrow.Author.Needs.{needs}
+use Rattle.status.proofs.set_mark.Statement.{statement}
+use Rattle.status.proofs.set_mark.Tie as tie
+
+returns : tie.Need-returns
+unfolding put
+returns c = yes _ (c .if1 .taken) refl
+
+slice-write-status : tie.Need-slice-write-status
+slice-write-status c = search needs
+
+same-length : tie.Need-same-length
+same-length c = search needs
+
+returns-2 : tie.Need-returns-2
+unfolding put
+returns-2 c = no _ (c .before .if1 .left) refl
+
+returns-3 : tie.Need-returns-3
+unfolding put
+returns-3 c = no _ (c .before .if1 .left) (ap (leavesMarks (said 0 [])) (sym (set-out _ _ _ (c .if2 .left))))
+
+pub set-mark-spec : {M : Type 1} → statement M
+set-mark-spec = tie.close (tie.spec returns slice-write-status same-length returns-2 returns-3)
