@@ -16,11 +16,11 @@ whole-requires c κs = search needs
 
 returns-2 : tie.Need-returns-2
 unfolding gateOf _and_
-returns-2 c = no _ (c .before .before .before .if1 .left) (yes _ (cc) refl)
+returns-2 c = no _ (c .before .before .before .if1 .left) (yes _ (rw (c .before .before .whole .ensures) at (c .if2 .taken)) refl)
 
 returns-3 : tie.Need-returns-3
 unfolding gateOf _and_
-returns-3 c = no _ (c .before .before .before .if1 .left) (no _ (cc) refl)
+returns-3 c = no _ (c .before .before .before .if1 .left) (no _ (rw (c .before .before .whole .ensures) at (c .if2 .left)) refl)
 
 pub admit-spec : {M : Type 1} → statement M
 admit-spec = tie.close (tie.spec returns whole-requires returns-2 returns-3)

@@ -28,7 +28,18 @@ live-fits-requires c κs = search needs
 
 returns : tie.Need-returns
 unfolding whole _and_
-returns c = cc
+returns c =
+    let d = c .before .before .before in
+    let e = d .before .before in
+    simp (
+      c .live-fits .ensures,
+      c .before .restoring-fits .ensures,
+      c .before .before .back-fits .ensures,
+      d .forward-fits .ensures,
+      e .staged-fits .ensures,
+      e .before .counts-fit .ensures,
+      e .before .before .lengths-fit .ensures,
+    )
 
 pub whole-spec : {M : Type 1} → statement M
 whole-spec =
