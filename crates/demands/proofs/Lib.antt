@@ -1,3 +1,4 @@
 pub mod Cases
 pub mod Exhibits
 pub mod Unique
+pub mod Logbook

@@ -1,0 +1,44 @@
+-- Document 01, "The log": room 3, opened at 0 and 0, update-only begin without actions, commit. The sixteen words, computed from the
+-- definitions. Assumes nothing.
+use Prim.Native.Nat.{ℕ}
+use mathlib.Core.Path.{_≡_, refl}
+use mathlib.Core.Bool.{true, false, not}
+use mathlib.Core.List.{List, [], _∷_}
+use lib.ListN.{replicate}
+use Rattle.choice.specs.Pick.{pick, _and_, _or_, _implies_}
+use Rattle.areas.specs.Areas.{sized, long}
+use Rattle.batch.specs.Batch.{tableSized, paired}
+use Rattle.record.specs.Answers.{refused}
+use Rattle.record.specs.Leaves.{Leaves}
+use Rattle.record.specs.declared.Record.{Record}
+use Rattle.wholeness.specs.Whole.{lengthsFit, countsFit, stagedFits, forwardFits, backFits, restoringFits, liveFits, whole, complete}
+use Rattle.wholeness.specs.Gates.{gateOf, gated}
+use Rattle.staging.specs.Opening.{opening, openStep}
+use Rattle.staging.specs.Beginning.{firstPhase, begun, beginOwn}
+use Rattle.settling.specs.Ending.{settled, commitOwn}
+use Rattle.phases.specs.Phases.{hasSuccessor}
+use Rattle.log.specs.Log.{logSized, headSound, sound, full, appended, blank}
+use Rattle.recording.specs.Recorded.{withLog, callWritten, recorded}
+use Rattle.recording.proofs.Laws.{logOf}
+use Rattle.logged_begins.specs.Begins.{openRecorded, beginKind, beginRecorded}
+use Rattle.logged_ends.specs.Ends.{commitRecorded}
+
+-- any area of 4,096 bytes, any table of 128 words, and any log of 16
+area : List ℕ
+area = replicate 4096 0
+
+table : List ℕ
+table = replicate 128 0
+
+opened : Leaves
+opened = openRecorded 0 0 (replicate 16 7) area []
+
+begun' : Leaves
+begun' = beginRecorded false (opened .told .state) (logOf opened) area area table [] [] []
+
+pub committed : Leaves
+committed = commitRecorded (begun' .told .state) (logOf begun') area area
+
+pub logbook : logOf committed ≡ 2 ∷ 4 ∷ 3 ∷ 0 ∷ 1 ∷ 0 ∷ 0 ∷ 0 ∷ 9 ∷ 0 ∷ 0 ∷ 1 ∷ 0 ∷ 0 ∷ 0 ∷ 0 ∷ []
+unfolding area table opened begun' committed pick _and_ _or_ _implies_ sized long tableSized paired refused lengthsFit countsFit stagedFits forwardFits backFits restoringFits liveFits whole complete gateOf gated opening openStep firstPhase begun beginOwn settled commitOwn hasSuccessor logSized headSound sound full appended blank withLog callWritten recorded openRecorded beginKind beginRecorded commitRecorded
+logbook = refl
