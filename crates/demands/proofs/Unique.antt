@@ -10,6 +10,9 @@ use Rattle.stamping.specs.Stamping.{saysStamping, saysChecked}
 use Rattle.stamping.specs.declared.Stamping.{Stamping}
 use Rattle.stamping.specs.declared.Checked.{Checked}
 use Rattle.stamping.proofs.Saying.{stamping-one, checked-one}
+use Rattle.status.specs.Status.{Marks, leavesMarks, saysMarked}
+use Rattle.status.specs.declared.Marked.{Marked}
+use Rattle.status.proofs.Marking.{marked-one}
 
 -- a promise of the form x ≡ d
 pub one : {A : Type 0} {d x y : A} → x ≡ d → y ≡ d → x ≡ y
@@ -35,3 +38,9 @@ one-stamping d a b p q = stamping-one a b (one p q)
 
 pub one-checked : (d : Said) (a b : Checked) → saysChecked a ≡ d → saysChecked b ≡ d → a ≡ b
 one-checked d a b p q = checked-one a b (one p q)
+
+-- of the form leavesMarks (saysMarked m) bytes ≡ d: the status calls
+pub one-marked : (d : Marks) (a b : Marked) (l m : List ℕ) → leavesMarks (saysMarked a) l ≡ d → leavesMarks (saysMarked b) m ≡ d → (a ≡ b) × (l ≡ m)
+one-marked d a b l m p q =
+    let e = one p q in
+    (marked-one a b (ap (λ (x : Marks). x .said) e), ap (λ (x : Marks). x .status) e)

@@ -1,11 +1,13 @@
 -- What an answer says determines it, and so does what a call tells; refusals are told by their numbers. Assumes nothing.
 use Prim.Native.Nat.{ℕ}
 use mathlib.Core.Path.{_≡_, refl, sym, _∙_, ap}
-use mathlib.Core.Bool.{true}
+use mathlib.Core.Bool.{true, false}
 use mathlib.Core.List.{List, [], _∷_}
 use lib.Dec.{eqb}
 use lib.ListN.{getD}
+use borrow.Author.Tests.{ne-eqb}
 use Rattle.choice.specs.Pick.{pick, _and_}
+use Rattle.choice.proofs.Tests.{both, tests}
 use Rattle.record.specs.Answers.{refusalNumber, refused, valuesOf, Said, said, says, Told, told, tells}
 use Rattle.record.specs.declared.Record.{Record}
 use Rattle.record.specs.declared.Stepped.{Stepped}
@@ -113,3 +115,8 @@ refused-number Stale = refl
 refused-number Worn = refl
 refused-number LogFull = refl
 refused-number NoStatus = refl
+
+-- and none is Done's
+pub not-done : (why : Refusal) → eqb (refusalNumber why) 0 ≡ false
+unfolding refused
+not-done why = let h = both (refused-number why) in ne-eqb (refusalNumber why) 0 (λ (e : refusalNumber why ≡ 0). omega tests)

@@ -1,26 +1,18 @@
 -- What a stamp's answer says determines it, and so does what checking one says. Assumes nothing.
 use Prim.Native.Nat.{ℕ}
 use mathlib.Core.Path.{_≡_, refl, sym, _∙_, ap}
-use mathlib.Core.Bool.{false}
 use mathlib.Core.List.{List}
 use lib.Dec.{eqb}
 use lib.ListN.{getD}
-use borrow.Author.Tests.{ne-eqb}
 use Rattle.choice.specs.Pick.{pick}
 use Rattle.choice.proofs.Picks.{no}
-use Rattle.choice.proofs.Tests.{both, tests}
-use Rattle.record.specs.Answers.{Said, refused, refusalNumber}
-use Rattle.record.specs.declared.Refusal.{Refusal}
-use Rattle.record.proofs.Saying.{refusalOf, refusal-back, refused-number}
+use Rattle.record.specs.Answers.{Said}
+use Rattle.record.proofs.Saying.{refusalOf, refusal-back, not-done}
 use Rattle.stamping.specs.Stamping.{saysStamping, saysChecked}
 use Rattle.stamping.specs.declared.Stamping.{Stamping}
 use Rattle.stamping.specs.declared.Stamping.the-variants as S
 use Rattle.stamping.specs.declared.Checked.{Checked}
 use Rattle.stamping.specs.declared.Checked.the-variants as C
-
-not-done : (why : Refusal) → eqb (refusalNumber why) 0 ≡ false
-unfolding refused
-not-done why = let h = both (refused-number why) in ne-eqb (refusalNumber why) 0 (λ (e : refusalNumber why ≡ 0). omega tests)
 
 stampingOf : ℕ → List ℕ → Stamping
 stampingOf n v = pick (eqb n 0) (S.Taken (record { domain = getD v 0 0; revision = getD v 1 0 })) (S.Refused (refusalOf n))

@@ -1,10 +1,16 @@
--- The two ends of a status call, by what was found at the id. Assumes nothing.
+-- The two ends of a status call, by what was found at the id; and that what it says determines its answer. Assumes nothing.
 use Prim.Native.Nat.{ℕ}
 use mathlib.Core.Path.{_≡_, refl, sym, _∙_, ap}
 use mathlib.Core.Bool.{Bool}
 use mathlib.Core.List.{List}
+use lib.Dec.{eqb}
+use Rattle.choice.specs.Pick.{pick}
+use Rattle.choice.proofs.Picks.{no}
+use Rattle.record.specs.Answers.{Said}
 use Rattle.record.specs.declared.Refusal.{Refusal}
+use Rattle.record.proofs.Saying.{refusalOf, refusal-back, not-done}
 use Rattle.status.specs.Status.{Marks, leavesMarks, saysMarked, put, marking}
+use Rattle.status.specs.declared.Marked.{Marked}
 use Rattle.status.specs.declared.Marked.the-variants as M
 use Rattle.status.specs.declared.Entry.{Entry}
 use Rattle.status.specs.declared.Entry.the-variants.{At, No}
@@ -19,3 +25,15 @@ module _ {e d : Entry} (status : List ℕ) (allowed : ℕ → ℕ → Bool) (nex
   unfolding marking
   found-at {id} {group} {mark} h q w =
       q ∙ ap (λ (x : ℕ). put (allowed group mark) id x status) w ∙ ap (λ (x : Entry). marking x status allowed next) (sym h ∙ p)
+
+markedOf : ℕ → Marked
+markedOf n = pick (eqb n 0) M.Done (M.Refused (refusalOf n))
+
+back : (a : Marked) → markedOf (saysMarked a .number) ≡ a
+unfolding markedOf pick
+back M.Done = refl
+back (M.Refused w) = sym (no _ (not-done w) (sym (ap M.Refused (refusal-back w))))
+
+-- what a status call says determines its answer
+pub marked-one : (a b : Marked) → saysMarked a ≡ saysMarked b → a ≡ b
+marked-one a b e = sym (back a) ∙ ap (λ (s : Said). markedOf (s .number)) e ∙ back b
