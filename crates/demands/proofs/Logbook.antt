@@ -23,7 +23,7 @@ use Rattle.recording.proofs.Laws.{logOf}
 use Rattle.logged_begins.specs.Begins.{openRecorded, beginKind, beginRecorded}
 use Rattle.logged_ends.specs.Ends.{commitRecorded}
 
--- any area of 4,096 bytes, any table of 128 words, and any log of 16
+-- an area of 4,096 bytes, a table of 128 words, and a log of 16 words with something in it
 area : List ℕ
 area = replicate 4096 0
 
