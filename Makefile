@@ -1,5 +1,5 @@
 # make run    proves, builds and runs the tour: the example of README.md
-# make test   the gate: the kit's identity, the layout of every file, and `rt ci` over every crate
+# make test   the gate: the kit's identity, the layout of every file, the oracle's tests, and `rt ci` over every crate
 .PHONY: help run test
 
 help:
@@ -13,4 +13,5 @@ run:
 test:
 	@tools/kit
 	@rt fmt --check
+	@cd oracle && cargo test --offline --quiet
 	@rt ci
