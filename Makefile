@@ -7,6 +7,7 @@ help:
 
 run:
 	@mkdir -p target
+	@echo 'proving and building the tour (some minutes on a clean checkout)'
 	@rt check tour >target/run.log 2>&1 || { cat target/run.log; exit 1; }
 	@tools/play tour
 
