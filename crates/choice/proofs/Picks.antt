@@ -1,5 +1,5 @@
 -- A value that is a case of nested picks: one step for each test on the way. Assumes nothing.
-use mathlib.Core.Path.{_≡_, refl, sym, _∙_, ap}
+use mathlib.Core.Path.{_≡_, sym, _∙_, ap}
 use mathlib.Core.Bool.{Bool, true, false, not}
 use Rattle.choice.specs.Pick.{pick}
 

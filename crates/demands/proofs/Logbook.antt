@@ -2,7 +2,7 @@
 -- definitions. Assumes nothing.
 use Prim.Native.Nat.{ℕ}
 use mathlib.Core.Path.{_≡_, refl}
-use mathlib.Core.Bool.{true, false, not}
+use mathlib.Core.Bool.{false}
 use mathlib.Core.List.{List, [], _∷_}
 use lib.ListN.{replicate}
 use Rattle.choice.specs.Pick.{pick, _and_, _or_, _implies_}
@@ -10,7 +10,6 @@ use Rattle.areas.specs.Areas.{sized, long}
 use Rattle.batch.specs.Batch.{tableSized, paired}
 use Rattle.record.specs.Answers.{refused}
 use Rattle.record.specs.Leaves.{Leaves}
-use Rattle.record.specs.declared.Record.{Record}
 use Rattle.wholeness.specs.Whole.{lengthsFit, countsFit, stagedFits, forwardFits, backFits, restoringFits, liveFits, whole, complete}
 use Rattle.wholeness.specs.Gates.{gateOf, gated}
 use Rattle.staging.specs.Opening.{opening, openStep}

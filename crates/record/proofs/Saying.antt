@@ -8,7 +8,7 @@ use lib.ListN.{getD}
 use borrow.Author.Tests.{ne-eqb}
 use Rattle.choice.specs.Pick.{pick, _and_}
 use Rattle.choice.proofs.Tests.{both, tests}
-use Rattle.record.specs.Answers.{refusalNumber, refused, valuesOf, Said, said, says, Told, told, tells}
+use Rattle.record.specs.Answers.{refusalNumber, refused, valuesOf, Said, said, says, Told, tells}
 use Rattle.record.specs.declared.Record.{Record}
 use Rattle.record.specs.declared.Stepped.{Stepped}
 use Rattle.record.specs.declared.Answer.{Answer}

@@ -6,7 +6,6 @@ use lib.Dec.{eqb, leb, ltb}
 use lib.ListN.{length, getD, set}
 use Rattle.choice.specs.Pick.{pick, _and_, _or_}
 use Rattle.record.specs.Answers.{Said, said, refusalNumber}
-use Rattle.record.specs.declared.Refusal.{Refusal}
 use Rattle.record.specs.declared.Refusal.the-variants.{BadArea, Damaged, NoStatus}
 use Rattle.status.specs.declared.Marked.{Marked}
 use Rattle.status.specs.declared.Marked.the-variants as M

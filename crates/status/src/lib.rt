@@ -2,7 +2,6 @@
 // 2 cancelled, 4 initialized, 8 finished). The index is the id.
 use record::Refusal;
 ghost use mathlib.Core.Path.{_≡_};
-ghost use mathlib.Core.Bool.{true, false};
 ghost use Rattle.status.specs.Status.{entryOf, withInitialized, withCancelled, saysMarked, leavesMarks, put, linkLeaves, initializeLeaves, cancelLeaves};
 
 // The most ids that one table holds.

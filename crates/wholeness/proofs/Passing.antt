@@ -4,7 +4,7 @@ use mathlib.Core.Path.{_≡_, refl, sym, _∙_, ap}
 use mathlib.Core.Bool.{Bool, true, false, not}
 use native.Mathlib.Omega.{arith}
 use Rattle.choice.specs.Pick.{pick, _and_}
-use Rattle.choice.proofs.Tests.{both, test}
+use Rattle.choice.proofs.Tests.{both}
 use Rattle.wholeness.specs.Whole.{whole}
 use Rattle.record.specs.Answers.{Told, refuse}
 use Rattle.wholeness.specs.Gates.{gateOf, gated}

@@ -1,6 +1,5 @@
 -- `areas::exchange` meets its contract: after i turns the first i bytes have changed places. Assumes nothing.
-use mathlib.Core.Path.{refl, sym, ap}
-use mathlib.Core.List.{_∷_, []}
+use mathlib.Core.Path.{refl}
 use Prim.Native.Nat.{_-_}
 use native.Mathlib.Omega.{arith}
 use lib.ListN.{length}

@@ -1,6 +1,5 @@
 -- `status::set_mark` meets its contract. Assumes nothing.
-use mathlib.Core.List.{List, []}
-use Prim.Native.Nat.{ℕ}
+use mathlib.Core.List.{[]}
 use mathlib.Core.Path.{refl, ap, sym}
 use lib.Seq.{set-out}
 use Rattle.choice.proofs.Picks.{yes, no}
