@@ -1,7 +1,7 @@
--- The calls of document 01 as one type, payloads by their lengths, and one step over it: the log aside and every area of the
--- right size. Opening is no step: it starts a chain. Assumes nothing.
+-- The calls of document 01 as one type, payloads by their lengths, and one step over it. Opening is no step: it starts a chain.
+-- Assumes nothing.
 use Prim.Native.Nat.{ℕ}
-use mathlib.Core.Bool.{true, false}
+use mathlib.Core.Bool.{Bool, true, false}
 use Rattle.record.specs.Answers.{Told, told}
 use Rattle.record.specs.declared.Record.{Record}
 use Rattle.record.specs.declared.Outcome.{Outcome}
@@ -24,19 +24,24 @@ pub data Call : Type 0 where
   stamp : (domain : ℕ) → Call
   check : (domain stampDomain stampRevision : ℕ) → Call
 
+-- what a call answers and leaves where all that it is lent is of the right size or not, and where a log's head is sound or not
+unfoldable pub stepWith : Bool → Bool → Record → Call → Told
+stepWith sized sound r (begin c o n) = beginStep sized sound false r c o n
+stepWith sized sound r (beginStructural c o n) = beginStep sized sound true r c o n
+stepWith sized sound r askStructure = askStructureStep sized sound r
+stepWith sized sound r askUpdate = askUpdateStep sized sound r
+stepWith sized sound r askRollback = askRollbackStep sized sound r
+stepWith sized sound r (reportStructure t x c o) = reportStructureStep sized sound r t x c o
+stepWith sized sound r (reportUpdate t x) = reportUpdateStep sized sound r t x
+stepWith sized sound r (reportRollback t x) = reportRollbackStep sized sound r t x
+stepWith sized sound r (edit c o) = editStep sized sound r c o
+stepWith sized sound r commit = commitStep sized sound r
+stepWith sized sound r (recover n) = recoverStep sized sound r n
+stepWith sized sound r recoverRetained = recoverRetainedStep sized sound r
+stepWith sized sound r (refresh n) = refreshStep sized sound r n
+stepWith sized sound r (stamp domain) = told (stampStep r domain) r
+stepWith sized sound r (check domain d v) = told (checkStep r domain d v) r
+
+-- "the log aside and every area of the right size"
 unfoldable pub step : Record → Call → Told
-step r (begin c o n) = beginStep true true false r c o n
-step r (beginStructural c o n) = beginStep true true true r c o n
-step r askStructure = askStructureStep true true r
-step r askUpdate = askUpdateStep true true r
-step r askRollback = askRollbackStep true true r
-step r (reportStructure t x c o) = reportStructureStep true true r t x c o
-step r (reportUpdate t x) = reportUpdateStep true true r t x
-step r (reportRollback t x) = reportRollbackStep true true r t x
-step r (edit c o) = editStep true true r c o
-step r commit = commitStep true true r
-step r (recover n) = recoverStep true true r n
-step r recoverRetained = recoverRetainedStep true true r
-step r (refresh n) = refreshStep true true r n
-step r (stamp domain) = told (stampStep r domain) r
-step r (check domain d v) = told (checkStep r domain d v) r
+step r c = stepWith true true r c
