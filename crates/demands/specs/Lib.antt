@@ -1,2 +1,7 @@
 pub mod Calls
 pub mod Cases
+pub mod Chains
+pub mod Watching
+pub mod Plans
+pub mod Promises
+pub mod Starting

@@ -1,0 +1,76 @@
+-- Demand 3 from any whole record, of which an opening is one case: what the watcher is told of it ties to it. Assumes nothing.
+use Prim.Native.Nat.{ℕ, _+_, _≤_}
+use mathlib.Core.Path.{_≡_, refl}
+use mathlib.Core.Bool.{Bool, true, false}
+use mathlib.Core.List.{List}
+use mathlib.Core.Logic.{_≢_}
+use native.Mathlib.Omega.{arith}
+use lib.Dec.{leb}
+use lib.ListN.{length}
+use borrow.Author.Tests.{leb-true, leb-false}
+use Rattle.record.specs.Fields.{top}
+use Rattle.record.specs.declared.Record.{Record}
+use Rattle.record.specs.declared.Live.{Live}
+use Rattle.record.specs.declared.Live.the-variants.{None, Structure, Update, Rollback}
+use Rattle.wholeness.specs.Whole.{whole}
+use Rattle.demands.specs.Calls.{Call}
+use Rattle.demands.specs.Chains.{after, heard}
+use Rattle.demands.specs.Watching.{Watch, watch}
+use Rattle.demands.specs.Plans.{planned, plannedBack}
+use Rattle.demands.specs.Starting.{itemOf, doneOf, undoneOf, startedOf, watchOf}
+use Rattle.demands.specs.Promises.{Forward, Backward, Asking}
+use Rattle.demands.proofs.Facts.{Whole, Tick}
+use Rattle.demands.proofs.Reading.{whole-facts}
+use Rattle.demands.proofs.Course.{Kind, Last, Course}
+use Rattle.demands.proofs.Course.Kind.{updateOnly, structural}
+use Rattle.demands.proofs.Course.Course.{ahead, behind}
+use Rattle.demands.proofs.Noting.{Tied}
+use Rattle.demands.proofs.Chain.{Good, good-chain}
+use Rattle.demands.proofs.Revision.{chain-gains}
+use Rattle.demands.proofs.Exactly.{forward-law, backward-law}
+use Rattle.demands.proofs.Asking.{asking-law}
+
+kind-of : (p : ℕ) (t : Bool) → leb 1 p ≡ t → Kind t p
+kind-of p true e = structural refl (leb-true 1 p e)
+kind-of p false e = let h = leb-false 1 p e in updateOnly refl (omega arith)
+
+last-of : (r : Record) (l : Live) → Tick l (r .serial) (r .phase .number) (r .entries) (r .applied) (r .attempted) (r .restoring) →
+    Last l (r .serial) (itemOf l r) (r .phase .number) (r .applied) (r .entries)
+last-of r None x = tt
+last-of r (Structure t) x = (omega (arith, x .number), refl)
+last-of r (Update t) x = (omega (arith, x .number), refl)
+last-of r (Rollback t) x = (omega (arith, x .number), refl)
+
+course-of : (r : Record) (v : Bool) →
+    Course (leb 1 (r .phase .number)) (r .entries) (startedOf v r) (doneOf v r) (undoneOf v r) (r .forward) (r .back) (r .entries) (r .applied) (r .attempted) v
+course-of r true = behind refl (r .back) (omega arith) refl
+course-of r false = ahead refl refl refl refl refl
+
+tied-of : (r : Record) → Whole r → Tied (watchOf r) r
+unfolding watchOf
+tied-of r w = record { running = refl; turning = refl; kind = kind-of (r .phase .number) _ refl; last = last-of r (r .live) (w .ticket); course = course-of r (r .restoring) }
+
+module _ (r : Record) (m : r .revision ≤ top) (h : whole r ≡ true) (cs : List Call) where
+  abbrev now : Record
+  now = after r cs
+
+  abbrev seen : Watch
+  seen = watch (watchOf r) (heard r cs)
+
+  good : Good seen now
+  good = let w = whole-facts r m h in good-chain (watchOf r) r cs (record { is-whole = w; tied = tied-of r w })
+
+  pub revision-from : now .revision ≡ r .revision + seen .commits
+  unfolding watchOf
+  revision-from = let g = chain-gains (watchOf r) r cs in omega arith
+
+  pub commit-from : seen .running ≡ true → seen .turned ≡ false → Forward now seen
+  commit-from = forward-law seen now good
+
+  pub recovery-from : seen .running ≡ true → seen .turned ≡ true → Backward now seen
+  recovery-from = backward-law seen now good
+
+  pub never-locked-from : seen .running ≡ true →
+      (seen .turned ≡ false → length (seen .done) ≢ planned (seen .structural) (seen .size)) →
+      (seen .turned ≡ true → length (seen .undone) ≢ plannedBack (seen .structural) (seen .started)) → Asking now
+  never-locked-from = asking-law seen now good

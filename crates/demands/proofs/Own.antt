@@ -1,0 +1,99 @@
+-- A step on a whole record is the call's own; on any other it is refused as Damaged. Assumes nothing.
+use Prim.Native.Nat.{ℕ}
+use mathlib.Core.Path.{_≡_, refl}
+use mathlib.Core.Bool.{Bool, true, false}
+use Rattle.choice.specs.Pick.{pick, _and_}
+use Rattle.record.specs.Answers.{Told, Said, told, refuse}
+use Rattle.record.specs.Live.{isLive, structure, update, rollback}
+use Rattle.record.specs.Fields.{spent}
+use Rattle.record.specs.declared.Record.{Record}
+use Rattle.record.specs.declared.Refusal.{Refusal}
+use Rattle.record.specs.declared.Refusal.the-variants.{Damaged, Stale, Pending}
+use Rattle.wholeness.specs.Whole.{whole}
+use Rattle.wholeness.specs.Gates.{gateOf, gated}
+use Rattle.wholeness.specs.declared.Gate.the-variants.{Open, Shut}
+use Rattle.staging.specs.Beginning.{beginOwn, editOwn}
+use Rattle.asking.specs.Asks.{askStructureOwn, askUpdateOwn, askRollbackOwn}
+use Rattle.reporting.specs.Done.{updateDone, rollbackDone}
+use Rattle.reporting.specs.Reports.{behind, reportGate, reported, reportStructureOwn}
+use Rattle.settling.specs.Ending.{commitOwn, recoverOwn, recoverRetainedOwn, refreshOwn}
+use Rattle.stamping.specs.Stamping.{saysStamping, saysChecked, stampStep, passes, checkStep}
+use Rattle.stamping.specs.declared.Stamping.the-variants as S
+use Rattle.stamping.specs.declared.Checked.the-variants as C
+use Rattle.demands.specs.Calls.{Call, stepWith, step}
+use Rattle.demands.specs.Calls.Call.{begin, beginStructural, askStructure, askUpdate, askRollback, reportStructure, reportUpdate, reportRollback, edit, commit, recover, recoverRetained, refresh, stamp, check}
+
+-- a report: 10 unless its ticket is the live one of its kind
+abbrev pub live : ℕ → ℕ → Record → Told → Told
+live kind ticket r own = pick (isLive kind ticket (r .live)) own (refuse Stale r)
+
+-- what a call does behind its gate
+unfoldable pub own : Record → Call → Told
+own r (begin c o n) = beginOwn false r c o n
+own r (beginStructural c o n) = beginOwn true r c o n
+own r askStructure = askStructureOwn r
+own r askUpdate = askUpdateOwn r
+own r askRollback = askRollbackOwn r
+own r (reportStructure t x c o) = live structure t r (reportStructureOwn r x c o)
+own r (reportUpdate t x) = live update t r (reported x (spent r) (updateDone (spent r)))
+own r (reportRollback t x) = live rollback t r (reported x (spent r) (rollbackDone (spent r)))
+own r (edit c o) = editOwn r c o
+own r commit = commitOwn r
+own r (recover n) = recoverOwn r n
+own r recoverRetained = recoverRetainedOwn r
+own r (refresh n) = refreshOwn r n
+own r (stamp domain) =
+    pick (r .staged) (refuse Pending r) (told (saysStamping (S.Taken (record { domain = domain; revision = r .revision }))) r)
+own r (check domain d v) = pick (passes r domain d v) (told (saysChecked C.Passes) r) (told (saysChecked C.Fails) r)
+
+-- a gate that is open only on a test
+gated-pick : (b : Bool) (why : Refusal) (r : Record) (own : Told) → gated (pick b Open (Shut why)) r own ≡ pick b own (refuse why r)
+unfolding pick gated
+gated-pick true why r own = refl
+gated-pick false why r own = refl
+
+told-pick : (b : Bool) (r : Record) (x y : Said) → told (pick b x y) r ≡ pick b (told x r) (told y r)
+unfolding pick
+told-pick true r x y = refl
+told-pick false r x y = refl
+
+module _ (r : Record) where
+  report-whole : (kind ticket : ℕ) (x : Told) → whole r ≡ true → gated (reportGate true true r kind ticket) r x ≡ live kind ticket r x
+  unfolding gateOf reportGate behind pick _and_
+  report-whole kind ticket x h = rw h (gated-pick (isLive kind ticket (r .live)) Stale r x)
+
+  pub whole-step : (c : Call) → whole r ≡ true → step r c ≡ own r c
+  unfolding step stepWith own gateOf gated reportGate behind pick _and_ stampStep checkStep
+  whole-step (begin c o n) h = rw h
+  whole-step (beginStructural c o n) h = rw h
+  whole-step askStructure h = rw h
+  whole-step askUpdate h = rw h
+  whole-step askRollback h = rw h
+  whole-step (reportStructure t x c o) h = report-whole structure t _ h
+  whole-step (reportUpdate t x) h = report-whole update t _ h
+  whole-step (reportRollback t x) h = report-whole rollback t _ h
+  whole-step (edit c o) h = rw h
+  whole-step commit h = rw h
+  whole-step (recover n) h = rw h
+  whole-step recoverRetained h = rw h
+  whole-step (refresh n) h = rw h
+  whole-step (stamp domain) h = rw h (told-pick (r .staged) r _ _)
+  whole-step (check domain d v) h = rw h (told-pick (passes r domain d v) r _ _)
+
+  pub damaged-step : (c : Call) → whole r ≡ false → step r c ≡ refuse Damaged r
+  unfolding step stepWith gateOf gated reportGate behind pick _and_ stampStep checkStep
+  damaged-step (begin c o n) h = rw h
+  damaged-step (beginStructural c o n) h = rw h
+  damaged-step askStructure h = rw h
+  damaged-step askUpdate h = rw h
+  damaged-step askRollback h = rw h
+  damaged-step (reportStructure t x c o) h = rw h
+  damaged-step (reportUpdate t x) h = rw h
+  damaged-step (reportRollback t x) h = rw h
+  damaged-step (edit c o) h = rw h
+  damaged-step commit h = rw h
+  damaged-step (recover n) h = rw h
+  damaged-step recoverRetained h = rw h
+  damaged-step (refresh n) h = rw h
+  damaged-step (stamp domain) h = rw h
+  damaged-step (check domain d v) h = rw h

@@ -1,0 +1,30 @@
+-- Demand 3, sentence by sentence, of a record and of what the watcher knows: w is known when r is reached. Assumes nothing.
+use mathlib.Core.Path.{_≡_}
+use mathlib.Core.Bool.{true}
+use mathlib.Core.Logic.{_≢_}
+use lib.Dec.{eqb}
+use lib.ListN.{length}
+use Rattle.record.specs.Fields.{top}
+use Rattle.record.specs.declared.Record.{Record}
+use Rattle.demands.specs.Calls.{Call, step}
+use Rattle.demands.specs.Calls.Call.{commit, recoverRetained}
+use Rattle.demands.specs.Chains.{hears}
+use Rattle.demands.specs.Watching.{Watch, performed, granted}
+use Rattle.demands.specs.Plans.{planned, planAt, plannedBack, backAt, firsts, due}
+
+-- "commit succeeds exactly after 5 + n Done reports that are taken (n if update-only), in the fixed order"
+pub record Forward (r : Record) (w : Watch) : Type 0 where
+  pub order : w .done ≡ firsts (planAt (w .structural) (w .size)) (length (w .done))
+  pub exact : performed (hears commit (step r commit) .answer) ≡ eqb (length (w .done)) (planned (w .structural) (w .size))
+
+-- "with k updates started, recovery from the retained payload succeeds exactly after k + 4 further Done reports that are taken (k if
+-- update-only), the k undos in reverse order"
+pub record Backward (r : Record) (w : Watch) : Type 0 where
+  pub order : w .undone ≡ firsts (backAt (w .started)) (length (w .undone))
+  pub exact : performed (hears recoverRetained (step r recoverRetained) .answer) ≡ eqb (length (w .undone)) (plannedBack (w .structural) (w .started))
+
+-- "the due asking of document 01 is granted, unless the serial is at its maximum"
+pub record Asking (r : Record) : Type 0 where
+  pub call : Call
+  pub is-due : due r call ≡ true
+  pub is-granted : r .serial ≢ top → granted (hears call (step r call) .answer) ≡ true
