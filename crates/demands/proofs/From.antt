@@ -18,7 +18,7 @@ use Rattle.demands.specs.Chains.{after, heard}
 use Rattle.demands.specs.Watching.{Watch, watch}
 use Rattle.demands.specs.Plans.{planned, plannedBack}
 use Rattle.demands.specs.Starting.{itemOf, doneOf, undoneOf, startedOf, watchOf}
-use Rattle.demands.specs.Promises.{Forward, Backward, Asking}
+use Rattle.demands.specs.Promises.{revisionAfter, Forward, Backward, Asking}
 use Rattle.demands.proofs.Facts.{Whole, Tick}
 use Rattle.demands.proofs.Reading.{whole-facts}
 use Rattle.demands.proofs.Course.{Kind, Last, Course}
@@ -60,7 +60,7 @@ module _ (r : Record) (m : r .revision ≤ top) (h : whole r ≡ true) (cs : Lis
   good : Good seen now
   good = let w = whole-facts r m h in good-chain (watchOf r) r cs (record { is-whole = w; tied = tied-of r w })
 
-  pub revision-from : now .revision ≡ r .revision + seen .commits
+  pub revision-from : now .revision ≡ revisionAfter (r .revision) (seen .commits)
   unfolding watchOf
   revision-from = let g = chain-gains (watchOf r) r cs in omega arith
 

@@ -26,3 +26,4 @@ pub mod Revision
 pub mod Stamps
 pub mod Theorems
 pub mod From
+pub mod Courses

@@ -19,6 +19,7 @@ use Rattle.demands.specs.Calls.{Call, step}
 use Rattle.demands.specs.Calls.Call.{stamp, check}
 use Rattle.demands.specs.Chains.{hears, after, heard}
 use Rattle.demands.specs.Watching.{watch, unwatched}
+use Rattle.demands.specs.Promises.{stampPasses}
 use Rattle.demands.proofs.Own.{own, whole-step, damaged-step}
 use Rattle.demands.proofs.Chain.{whole-kept}
 use Rattle.demands.proofs.Revision.{chain-gains}
@@ -74,8 +75,8 @@ same-by x y n h = test (eqb n 0) (λ (e : eqb n 0 ≡ true). eq-eqb x y (omega t
 
 pub stamp-law : (r : Record) (d a v : ℕ) (cs : List Call) (e : ℕ) → r .revision ≤ top → hears (stamp d) (step r (stamp d)) .answer ≡ said 0 (a ∷ v ∷ []) →
     hears (check e a v) (step (after r cs) (check e a v)) .answer
-    ≡ said 0 (pick (not (after r cs .staged) and eqb e a and eqb (watch unwatched (heard r cs) .commits) 0) 1 0 ∷ [])
-unfolding passes unwatched
+    ≡ said 0 (pick (stampPasses (after r cs .staged) e a (watch unwatched (heard r cs) .commits)) 1 0 ∷ [])
+unfolding passes unwatched stampPasses
 stamp-law r d a v cs e m h =
     let s = stamped r d a v h in
     let g = chain-gains unwatched r cs in

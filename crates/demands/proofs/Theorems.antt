@@ -19,7 +19,7 @@ use Rattle.demands.specs.Calls.{Call}
 use Rattle.demands.specs.Chains.{after, heard}
 use Rattle.demands.specs.Watching.{Watch, watch, unwatched}
 use Rattle.demands.specs.Plans.{planned, plannedBack}
-use Rattle.demands.specs.Promises.{Forward, Backward, Asking}
+use Rattle.demands.specs.Promises.{revisionAfter, Forward, Backward, Asking}
 use Rattle.demands.proofs.Facts.Stage.{flat}
 use Rattle.demands.proofs.Facts.Calm.{off}
 use Rattle.demands.proofs.Wholeness.{whole-test}
@@ -68,7 +68,7 @@ module _ (sized : Bool) (v s l : ℕ) (m : v ≤ top) (o : openStep sized v s l 
   good = let x = opened sized v s l o in rw (x .0) (good-chain unwatched (opening v s l) cs (good-opening v s l m (x .1)))
 
   -- "the revision is the opening one plus the successful commits"
-  pub revision-law : now .revision ≡ v + seen .commits
+  pub revision-law : now .revision ≡ revisionAfter v (seen .commits)
   unfolding opening unwatched
   revision-law = let x = opened sized v s l o in rw (x .0) (let g = chain-gains unwatched (opening v s l) cs in omega arith)
 

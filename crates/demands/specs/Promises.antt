@@ -1,9 +1,11 @@
--- Demand 3, sentence by sentence, of a record and of what the watcher knows: w is known when r is reached. Assumes nothing.
+-- Demands 2 and 3, sentence by sentence, of a record and of what the watcher knows: w is known when r is reached. Assumes nothing.
+use Prim.Native.Nat.{ℕ, _+_}
 use mathlib.Core.Path.{_≡_}
-use mathlib.Core.Bool.{true}
+use mathlib.Core.Bool.{Bool, true, not}
 use mathlib.Core.Logic.{_≢_}
 use lib.Dec.{eqb}
 use lib.ListN.{length}
+use Rattle.choice.specs.Pick.{_and_}
 use Rattle.record.specs.Fields.{top}
 use Rattle.record.specs.declared.Record.{Record}
 use Rattle.demands.specs.Calls.{Call, step}
@@ -11,6 +13,14 @@ use Rattle.demands.specs.Calls.Call.{commit, recoverRetained}
 use Rattle.demands.specs.Chains.{hears}
 use Rattle.demands.specs.Watching.{Watch, performed, granted}
 use Rattle.demands.specs.Plans.{planned, planAt, plannedBack, backAt, firsts, due}
+
+-- "a stamp taken in it passes exactly if nothing is staged, the domain is equal and no commit has succeeded since it was taken"
+unfoldable pub stampPasses : Bool → ℕ → ℕ → ℕ → Bool
+stampPasses staged domain stampDomain commits = not staged and eqb domain stampDomain and eqb commits 0
+
+-- "the revision is the opening one plus the successful commits"
+abbrev pub revisionAfter : ℕ → ℕ → ℕ
+revisionAfter opening commits = opening + commits
 
 -- "commit succeeds exactly after 5 + n Done reports that are taken (n if update-only), in the fixed order"
 pub record Forward (r : Record) (w : Watch) : Type 0 where

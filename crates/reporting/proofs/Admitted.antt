@@ -4,6 +4,7 @@ use mathlib.Core.Path.{_≡_, refl, sym, _∙_, ap}
 use mathlib.Core.Bool.{Bool, true, false}
 use native.Mathlib.Omega.{arith}
 use Rattle.choice.specs.Pick.{pick}
+use Rattle.batch.specs.Batch.{limit}
 use Rattle.record.specs.Live.{isLive, structure, rollback}
 use Rattle.wholeness.specs.Gates.{gateOf}
 use Rattle.record.specs.declared.Record.{Record}
@@ -58,7 +59,7 @@ structure-room sized sound r ticket e h =
     (forward-small _ _ (t .forward), back-small _ _ (t .back))
 
 -- an applied count can be raised
-pub update-room : {g : Gate} (sized sound : Bool) (r : Record) (kind ticket : ℕ) → g ≡ reportGate sized sound r kind ticket → g ≡ Open → r .applied ≤ 64
+pub update-room : {g : Gate} (sized sound : Bool) (r : Record) (kind ticket : ℕ) → g ≡ reportGate sized sound r kind ticket → g ≡ Open → r .applied ≤ limit
 update-room sized sound r kind ticket e h =
     let c = counts-of _ _ _ (admitted sized sound r kind ticket e h .tests .counts) in omega arith
 

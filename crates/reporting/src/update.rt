@@ -10,13 +10,14 @@ use wholeness::Gate;
 use wholeness::Lent;
 ghost use mathlib.Core.Path.{_≡_};
 ghost use Prim.Native.Nat.{_≤_};
+ghost use Rattle.batch.specs.Batch.{limit};
 ghost use Rattle.record.specs.Answers.{tells};
 ghost use Rattle.reporting.specs.Done.{updateDone};
 ghost use Rattle.reporting.specs.Reports.{reportUpdateStep};
 
 // One more action is applied.
 fn update_done(mut r: Record) -> Stepped
-    requires { ⌜ r .applied ≤ 64 ⌝ }
+    requires { ⌜ r .applied ≤ limit ⌝ }
     ensures { λ s. ⌜ tells s ≡ updateDone r ⌝ }
 {
     r.applied = r.applied + 1;

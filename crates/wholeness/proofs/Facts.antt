@@ -6,6 +6,7 @@ use lib.Dec.{leb}
 use borrow.Author.Tests.{eqb-true, ltb-true}
 use Rattle.choice.proofs.Tests.{both, either, follows, tests}
 use Rattle.phases.specs.Phases.{hasSuccessor, recovered}
+use Rattle.batch.specs.Batch.{limit}
 use Rattle.record.specs.Fields.{top}
 use Rattle.record.specs.Live.{isLive, structure, update, rollback}
 use Rattle.wholeness.specs.Whole.{whole, lengthsFit, countsFit, stagedFits, forwardFits, backFits, restoringFits, liveFits}
@@ -44,7 +45,7 @@ pub behind : {g : Gate} (sized sound : Bool) (r : Record) → g ≡ gateOf sized
 behind sized sound r e h = parts (passed sized sound r e h .is-whole)
 
 pub record Counts (n a k : ℕ) : Type 0 where
-  pub few : n ≤ 64
+  pub few : n ≤ limit
   pub order : a ≤ k
   pub near : k ≤ a + 1
   pub inside : k ≤ n
