@@ -1,2 +1,4 @@
 pub mod Calls
 pub mod Cases
+pub mod Chains
+pub mod Logged

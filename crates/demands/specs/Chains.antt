@@ -1,0 +1,22 @@
+-- Chains of calls, each given what the last left, and what is heard of them: the calls and their answers. Assumes nothing.
+use mathlib.Core.List.{List, [], _∷_}
+use Rattle.record.specs.Answers.{Told, Said, said}
+use Rattle.record.specs.declared.Record.{Record}
+use Rattle.demands.specs.Calls.{Call, step}
+
+-- a call with its answer: all that a caller sees of it
+pub record Heard : Type 0 where
+  pub call : Call
+  pub answer : Said
+
+abbrev pub hears : Call → Told → Heard
+hears c t = record { call = c; answer = said (t .number) (t .values) }
+
+-- "In one chain of calls, each given what the last left": the record after them
+unfoldable pub after : Record → List Call → Record
+after r [] = r
+after r (c ∷ cs) = after (step r c .state) cs
+
+unfoldable pub heard : Record → List Call → List Heard
+heard r [] = []
+heard r (c ∷ cs) = hears c (step r c) ∷ heard (step r c .state) cs
