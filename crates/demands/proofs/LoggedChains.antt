@@ -26,9 +26,50 @@ pub record Same (r : Record) (log : List ℕ) (cs : List Call) : Type 0 where
   pub head-sound : sound (logged r log cs .log) ≡ true
   pub same-length : length (logged r log cs .log) ≡ length log
 
+module _ (r : Record) (log : List ℕ) (c : Call) (cs : List Call) where
+  abbrev next : List ℕ
+  next = logOf (loggedStep r log c)
+
+  abbrev rest : List Entry
+  rest = events (step r c .state) cs
+
+  -- a call, and then the rest of the chain
+  onward : Kept r log c (loggedStep r log c) → Same (step r c .state) next cs → Same r log (c ∷ cs)
+  unfolding logged after heard events
+  onward k s = record {
+    same-record = ap (λ (t : Told). logged (t .state) next cs .state) (k .told) ∙ s .same-record;
+    same-answers =
+        ap (λ (t : Told). hears c t ∷ logged (t .state) next cs .heard) (k .told) ∙ ap (λ (hs : List Heard). hears c (step r c) ∷ hs) (s .same-answers);
+    events-in-order =
+        ap (λ (t : Told). entries (logged (t .state) next cs .log)) (k .told)
+        ∙ s .events-in-order
+        ∙ ap (λ (es : List Entry). es ++ rest) (k .noting)
+        ∙ append-assoc (entries log) (eventOf r c) rest;
+    head-sound = ap (λ (t : Told). sound (logged (t .state) next cs .log)) (k .told) ∙ s .head-sound;
+    same-length = ap (λ (t : Told). length (logged (t .state) next cs .log)) (k .told) ∙ s .same-length ∙ k .lengths;
+  }
+
+  -- the room for a chain is room for its first call, and leaves room for the rest
+  parted : count log + length (events r (c ∷ cs)) ≤ room log → count log + length (eventOf r c) + length rest ≤ room log
+  unfolding events
+  parted f = let n = length-append (eventOf r c) rest in omega arith
+
+  left : sound log ≡ true → Kept r log c (loggedStep r log c) → count log + length (eventOf r c) + length rest ≤ room log → count next + length rest ≤ room next
+  left s k f =
+      let before = head-of log s in
+      let behind = head-of next (k .sounds) in
+      let n = sym (entries-length next) ∙ ap length (k .noting) ∙ length-append (entries log) (eventOf r c) in
+      let m = entries-length log in
+      let l = k .lengths in
+      omega arith
+
+-- "with room enough": the log has the right size, its head is sound, and what is to be written fits
 pub same-chain : (cs : List Call) (r : Record) (log : List ℕ) → logSized (length log) ≡ true → sound log ≡ true
     → count log + length (events r cs) ≤ room log → Same r log cs
 unfolding logged after heard events
 same-chain [] r log h s f =
     record { same-record = refl; same-answers = refl; events-in-order = sym (append-nil (entries log)); head-sound = s; same-length = refl }
-same-chain (c ∷ cs) r log h s f = ?
+same-chain (c ∷ cs) r log h s f =
+    let p = parted r log c cs f in
+    let k = kept r log c h s (omega arith) in
+    onward r log c cs k (same-chain cs (step r c .state) (next r log c cs) (ap logSized (k .lengths) ∙ h) (k .sounds) (left r log c cs s k p))
