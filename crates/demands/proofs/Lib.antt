@@ -4,3 +4,6 @@ pub mod Unique
 pub mod Logbook
 pub mod LoggedSteps
 pub mod LoggedChains
+pub mod LoggedOpening
+pub mod Ties
+pub mod NeverFull
