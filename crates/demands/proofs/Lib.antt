@@ -7,3 +7,4 @@ pub mod LoggedChains
 pub mod LoggedOpening
 pub mod Ties
 pub mod NeverFull
+pub mod LoggedExhibit

@@ -1,5 +1,5 @@
 -- Chains through the recorder: with room enough a recorded chain has the records and the answers of the plain one, and the log is the
--- list of its written events in order. Assumes nothing.
+-- list of its written events in order. With room or without, the head stays sound. Assumes nothing.
 use Prim.Native.Nat.{ℕ, _+_, _≤_}
 use mathlib.Core.Path.{_≡_, refl, sym, _∙_, ap}
 use mathlib.Core.Bool.{true}
@@ -10,13 +10,24 @@ use Rattle.record.specs.Answers.{Told}
 use Rattle.record.specs.declared.Record.{Record}
 use Rattle.log.specs.Log.{logSized, count, room, sound}
 use Rattle.log.specs.Entries.{Entry, entries}
-use Rattle.log.proofs.Room.{Head, head-of}
+use Rattle.log.proofs.Room.{head-of}
 use Rattle.log.proofs.Entries.{entries-length}
 use Rattle.recording.specs.Recorded.{logOf}
 use Rattle.demands.specs.Calls.{Call, step}
 use Rattle.demands.specs.Chains.{Heard, hears, after, heard}
-use Rattle.demands.specs.Logged.{Logged, loggedStep, logged, events}
-use Rattle.demands.proofs.LoggedSteps.{Kept, eventOf, kept}
+use Rattle.demands.specs.Logged.{loggedStep, logged, events}
+use Rattle.demands.proofs.LoggedSteps.{Kept, eventOf, kept, step-sound, step-length}
+
+-- whatever the log and its room
+pub always-sound : (cs : List Call) (r : Record) (log : List ℕ) → sound log ≡ true → sound (logged r log cs .log) ≡ true
+unfolding logged
+always-sound [] r log s = s
+always-sound (c ∷ cs) r log s = always-sound cs _ _ (step-sound r log c s)
+
+pub always-length : (cs : List Call) (r : Record) (log : List ℕ) → length (logged r log cs .log) ≡ length log
+unfolding logged
+always-length [] r log = refl
+always-length (c ∷ cs) r log = always-length cs _ _ ∙ step-length r log c
 
 -- what a recorded chain comes to
 pub record Same (r : Record) (log : List ℕ) (cs : List Call) : Type 0 where
@@ -34,19 +45,19 @@ module _ (r : Record) (log : List ℕ) (c : Call) (cs : List Call) where
   rest = events (step r c .state) cs
 
   -- a call, and then the rest of the chain
-  onward : Kept r log c (loggedStep r log c) → Same (step r c .state) next cs → Same r log (c ∷ cs)
+  onward : sound log ≡ true → Kept r log c (loggedStep r log c) → Same (step r c .state) next cs → Same r log (c ∷ cs)
   unfolding logged after heard events
-  onward k s = record {
-    same-record = ap (λ (t : Told). logged (t .state) next cs .state) (k .told) ∙ s .same-record;
+  onward s k t = record {
+    same-record = ap (λ (x : Told). logged (x .state) next cs .state) (k .told) ∙ t .same-record;
     same-answers =
-        ap (λ (t : Told). hears c t ∷ logged (t .state) next cs .heard) (k .told) ∙ ap (λ (hs : List Heard). hears c (step r c) ∷ hs) (s .same-answers);
+        ap (λ (x : Told). hears c x ∷ logged (x .state) next cs .heard) (k .told) ∙ ap (λ (hs : List Heard). hears c (step r c) ∷ hs) (t .same-answers);
     events-in-order =
-        ap (λ (t : Told). entries (logged (t .state) next cs .log)) (k .told)
-        ∙ s .events-in-order
+        ap (λ (x : Told). entries (logged (x .state) next cs .log)) (k .told)
+        ∙ t .events-in-order
         ∙ ap (λ (es : List Entry). es ++ rest) (k .noting)
         ∙ append-assoc (entries log) (eventOf r c) rest;
-    head-sound = ap (λ (t : Told). sound (logged (t .state) next cs .log)) (k .told) ∙ s .head-sound;
-    same-length = ap (λ (t : Told). length (logged (t .state) next cs .log)) (k .told) ∙ s .same-length ∙ k .lengths;
+    head-sound = always-sound (c ∷ cs) r log s;
+    same-length = always-length (c ∷ cs) r log;
   }
 
   -- the room for a chain is room for its first call, and leaves room for the rest
@@ -54,13 +65,14 @@ module _ (r : Record) (log : List ℕ) (c : Call) (cs : List Call) where
   unfolding events
   parted f = let n = length-append (eventOf r c) rest in omega arith
 
-  left : sound log ≡ true → Kept r log c (loggedStep r log c) → count log + length (eventOf r c) + length rest ≤ room log → count next + length rest ≤ room next
+  left : sound log ≡ true → Kept r log c (loggedStep r log c) → count log + length (eventOf r c) + length rest ≤ room log
+      → count next + length rest ≤ room next
   left s k f =
       let before = head-of log s in
-      let behind = head-of next (k .sounds) in
+      let behind = head-of next (step-sound r log c s) in
       let n = sym (entries-length next) ∙ ap length (k .noting) ∙ length-append (entries log) (eventOf r c) in
       let m = entries-length log in
-      let l = k .lengths in
+      let l = step-length r log c in
       omega arith
 
 -- "with room enough": the log has the right size, its head is sound, and what is to be written fits
@@ -72,4 +84,5 @@ same-chain [] r log h s f =
 same-chain (c ∷ cs) r log h s f =
     let p = parted r log c cs f in
     let k = kept r log c h s (omega arith) in
-    onward r log c cs k (same-chain cs (step r c .state) (next r log c cs) (ap logSized (k .lengths) ∙ h) (k .sounds) (left r log c cs s k p))
+    onward r log c cs s k
+    (same-chain cs (step r c .state) (next r log c cs) (ap logSized (step-length r log c) ∙ h) (step-sound r log c s) (left r log c cs s k p))

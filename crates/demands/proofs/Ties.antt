@@ -17,7 +17,7 @@ use Rattle.recording.proofs.Noting.{Agrees, log-decides}
 use Rattle.logged_begins.specs.Begins.{beginKind, beginRecorded}
 use Rattle.logged_reports.specs.Reports.{reportStructureRecorded, reportUpdateRecorded, reportRollbackRecorded}
 use Rattle.logged_ends.specs.Ends.{commitRecorded, recoverRecorded, recoverRetainedRecorded, refreshRecorded}
-use Rattle.demands.specs.Calls.{Call, stepWith, step}
+use Rattle.demands.specs.Calls.{stepWith, step}
 use Rattle.demands.specs.Calls.Call.{begin, beginStructural, askStructure, askUpdate, askRollback, reportStructure, reportUpdate, reportRollback, edit, commit, recover, recoverRetained, refresh, stamp, check}
 use Rattle.demands.specs.Logged.{kindOf, written, loggedStep}
 
