@@ -1,5 +1,5 @@
 -- A recorded chain with room to the last word, and the same chain with room for one event less: no hypothesis of LoggedChains is met by
--- nothing. In it an ask is answered 4 and written, and a commit answered 4 is not. Assumes nothing.
+-- nothing. In it an ask answered 4 is written, and a begin answered 1 and a commit answered 4 are not. Assumes nothing.
 use Prim.Native.Nat.{ℕ, _+_, _*_, _≤_}
 use mathlib.Core.Path.{_≡_, refl, ap}
 use mathlib.Core.Bool.{true}
@@ -36,7 +36,7 @@ pub start : Record
 start = opening 7 0 3
 
 pub chain : List Call
-chain = begin 2 2 1 ∷ askStructure ∷ commit ∷ edit 3 3 ∷ askUpdate ∷ reportUpdate 1 O.Done ∷ stamp 3 ∷ commit ∷ []
+chain = begin 2 2 1 ∷ begin 2 2 1 ∷ askStructure ∷ commit ∷ edit 3 3 ∷ askUpdate ∷ reportUpdate 1 O.Done ∷ stamp 3 ∷ commit ∷ []
 
 -- an opened log with room for so many events
 pub roomFor : ℕ → List ℕ
@@ -49,7 +49,7 @@ answers hs = map (λ (h : Heard). h .answer) hs
 pub computed : (events start chain ≡ entry 1 0 0 7 ∷ entry 3 4 0 7 ∷ entry 5 20 1 7 ∷ entry 6 24 1 7 ∷ entry 9 0 1 8 ∷ [])
     × (logged start (roomFor 5) chain .log ≡ 5 ∷ 4 ∷ 5 ∷ 0 ∷ 1 ∷ 0 ∷ 0 ∷ 7 ∷ 3 ∷ 4 ∷ 0 ∷ 7 ∷ 5 ∷ 20 ∷ 1 ∷ 7 ∷ 6 ∷ 24 ∷ 1 ∷ 7 ∷ 9 ∷ 0 ∷ 1 ∷ 8 ∷ [])
     × (answers (logged start (roomFor 4) chain .heard)
-    ≡ said 0 [] ∷ said 4 [] ∷ said 4 [] ∷ said 0 [] ∷ said 20 (1 ∷ 0 ∷ []) ∷ said 24 [] ∷ said 1 [] ∷ said 12 [] ∷ [])
+    ≡ said 0 [] ∷ said 1 [] ∷ said 4 [] ∷ said 4 [] ∷ said 0 [] ∷ said 20 (1 ∷ 0 ∷ []) ∷ said 24 [] ∷ said 1 [] ∷ said 12 [] ∷ [])
 unfolding start chain roomFor events noted kindOf written stepWritten callWritten loggedStep logged step stepWith pick _and_ _or_ _implies_ hasSuccessor long isLive adopting lengthsFit countsFit stagedFits forwardFits backFits restoringFits liveFits whole complete gateOf gated opening firstPhase begun beginOwn editOwn askStructureOwn askUpdateOwn updateDone behind reportGate reported settled commitOwn stampStep logSized headSound sound full appended blank recorded
 computed = (refl, refl, refl)
 
