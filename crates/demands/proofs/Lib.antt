@@ -5,6 +5,7 @@ pub mod Logbook
 pub mod LoggedSteps
 pub mod LoggedChains
 pub mod LoggedOpening
+pub mod LoggedExhibit
 pub mod Ties
 pub mod NeverFull
-pub mod LoggedExhibit
+pub mod LogFull

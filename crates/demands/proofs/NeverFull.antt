@@ -1,17 +1,13 @@
--- No step answers 12 by itself, so that through the log 12 is the log's answer, and then nothing has changed. Assumes nothing.
+-- No step answers 12 by itself: through the log, 12 is the log's answer. Assumes nothing.
 use Prim.Native.Nat.{ℕ}
-use mathlib.Core.Path.{_≡_, refl, ap}
+use mathlib.Core.Path.{_≡_, refl}
 use mathlib.Core.Bool.{Bool, true, false}
-use mathlib.Core.List.{List, [], _∷_}
 use lib.Dec.{eqb}
-use borrow.Author.Tests.{eqb-false}
 use Rattle.choice.specs.Pick.{pick}
-use Rattle.record.specs.Answers.{Said, Told, refuse}
-use Rattle.record.specs.Leaves.{Leaves, leaves}
+use Rattle.record.specs.Answers.{Said, Told}
 use Rattle.record.specs.declared.Record.{Record}
 use Rattle.record.specs.declared.Outcome.{Outcome}
 use Rattle.record.specs.declared.Outcome.the-variants as O
-use Rattle.record.specs.declared.Refusal.the-variants.{LogFull}
 use Rattle.wholeness.specs.Gates.{gateOf, gated}
 use Rattle.wholeness.specs.declared.Gate.{Gate}
 use Rattle.wholeness.specs.declared.Gate.the-variants.{Open, Shut}
@@ -21,17 +17,14 @@ use Rattle.reporting.specs.Done.{structureDone, updateDone, rollbackDone}
 use Rattle.reporting.specs.Reports.{behind, reportGate, reported, reportStructureOwn}
 use Rattle.settling.specs.Ending.{commitOwn, recoverOwn, recoverRetainedOwn, refreshOwn}
 use Rattle.stamping.specs.Stamping.{stampStep, checkStep}
-use Rattle.recording.specs.Recorded.{recorded, logOf}
-use Rattle.recording.proofs.Noting.{full-changes-nothing}
-use Rattle.demands.specs.Calls.{Call, stepWith, step}
+use Rattle.demands.specs.Calls.{Call, stepWith}
 use Rattle.demands.specs.Calls.Call.{begin, beginStructural, askStructure, askUpdate, askRollback, reportStructure, reportUpdate, reportRollback, edit, commit, recover, recoverRetained, refresh, stamp, check}
-use Rattle.demands.specs.Logged.{kindOf, written, loggedStep}
 
-abbrev Other : Told → Type 0
+abbrev pub Other : Told → Type 0
 Other t = eqb (t .number) 12 ≡ false
 
 -- whichever case is picked
-picked : {A : Type 0} (P : A → Type 0) (b : Bool) {x y : A} → P x → P y → P (pick b x y)
+pub picked : {A : Type 0} (P : A → Type 0) (b : Bool) {x y : A} → P x → P y → P (pick b x y)
 unfolding pick
 picked P true p q = p
 picked P false p q = q
@@ -87,18 +80,3 @@ never-full sized sound r recoverRetained = gate sized sound r r _ (picked Other 
 never-full sized sound r (refresh n) = gate sized sound r r _ (picked Other _ refl (picked Other _ refl refl))
 never-full sized sound r (stamp d) = picked OtherSaid _ refl (picked OtherSaid _ refl refl)
 never-full sized sound r (check d e v) = picked OtherSaid _ refl (picked OtherSaid _ refl refl)
-
--- "Where an entry does not fit, 12 is the whole answer": answered 12, a call returns the record equal and leaves the log and all else
--- that it is lent
-pub lent-stays : (sized sound : Bool) (r : Record) (log : List ℕ) (c : Call) (lent moved : List (List ℕ))
-    → recorded (written c) (kindOf c) (stepWith sized sound r c) r log lent moved .told .number ≡ 12
-    → recorded (written c) (kindOf c) (stepWith sized sound r c) r log lent moved ≡ leaves (refuse LogFull r) (log ∷ lent)
-lent-stays sized sound r log c lent moved = full-changes-nothing (written c) (kindOf c) (stepWith sized sound r c) r log lent moved (never-full sized sound r c)
-
-pub log-full-changes-nothing : (r : Record) (log : List ℕ) (c : Call) → loggedStep r log c .told .number ≡ 12
-    → (loggedStep r log c .told .state ≡ r) × (logOf (loggedStep r log c) ≡ log)
-unfolding loggedStep step
-log-full-changes-nothing r log c =
-    picked (λ (v : Leaves). v .told .number ≡ 12 → (v .told .state ≡ r) × (logOf v ≡ log)) _
-    (λ e. absurd (eqb-false _ _ (never-full true true r c) e))
-    (λ e. let z = lent-stays _ _ r log c [] [] e in (ap (λ (v : Leaves). v .told .state) z, ap logOf z))
