@@ -27,3 +27,10 @@ pub mod Stamps
 pub mod Theorems
 pub mod From
 pub mod Courses
+pub mod LoggedSteps
+pub mod LoggedChains
+pub mod LoggedOpening
+pub mod LoggedExhibit
+pub mod Ties
+pub mod NeverFull
+pub mod LogFull

@@ -17,8 +17,7 @@ use Rattle.staging.specs.Beginning.{firstPhase, begun, beginOwn}
 use Rattle.settling.specs.Ending.{settled, commitOwn}
 use Rattle.phases.specs.Phases.{hasSuccessor}
 use Rattle.log.specs.Log.{logSized, headSound, sound, full, appended, blank}
-use Rattle.recording.specs.Recorded.{withLog, callWritten, recorded}
-use Rattle.recording.proofs.Laws.{logOf}
+use Rattle.recording.specs.Recorded.{withLog, callWritten, recorded, logOf}
 use Rattle.logged_begins.specs.Begins.{openRecorded, beginKind, beginRecorded}
 use Rattle.logged_ends.specs.Ends.{commitRecorded}
 

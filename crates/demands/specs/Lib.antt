@@ -5,3 +5,4 @@ pub mod Watching
 pub mod Plans
 pub mod Promises
 pub mod Starting
+pub mod Logged
