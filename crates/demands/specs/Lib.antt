@@ -1,2 +1,4 @@
 pub mod Calls
 pub mod Cases
+pub mod Rows
+pub mod Refusals
