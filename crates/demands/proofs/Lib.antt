@@ -5,3 +5,5 @@ pub mod Logbook
 pub mod Rows
 pub mod Refusals
 pub mod OneRow
+pub mod ExactRefusals
+pub mod Lent

@@ -2,3 +2,5 @@ pub mod Calls
 pub mod Cases
 pub mod Rows
 pub mod Refusals
+pub mod Lending
+pub mod Contracts

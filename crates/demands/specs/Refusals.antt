@@ -112,3 +112,22 @@ rows sized sound r (calls (refresh n)) = gateRows sized sound r (1 when r .stage
 rows sized sound r (calls (stamp domain)) = 7 when not (whole r) ∷ 1 when r .staged ∷ 0 when otherwise ∷ []
 -- "checking a stamp answers yes, no or 7"
 rows sized sound r (calls (check domain d v)) = 7 when not (whole r) ∷ 0 when otherwise ∷ []
+
+-- the numbers that document 01 lists for each call, in its order
+unfoldable pub numbersOf : AnyCall → List ℕ
+numbersOf (opens revision serial accepted) = 6 ∷ 8 ∷ 0 ∷ []
+numbersOf (calls (begin c o n)) = 6 ∷ 7 ∷ 1 ∷ 3 ∷ 8 ∷ 9 ∷ 0 ∷ []
+numbersOf (calls (beginStructural c o n)) = 6 ∷ 7 ∷ 1 ∷ 3 ∷ 8 ∷ 9 ∷ 0 ∷ []
+numbersOf (calls askStructure) = 6 ∷ 7 ∷ 4 ∷ 24 ∷ 11 ∷ 20 ∷ []
+numbersOf (calls askUpdate) = 6 ∷ 7 ∷ 5 ∷ 24 ∷ 11 ∷ 20 ∷ []
+numbersOf (calls askRollback) = 6 ∷ 7 ∷ 11 ∷ 24 ∷ 20 ∷ []
+numbersOf (calls (reportStructure t x c o)) = 6 ∷ 7 ∷ 10 ∷ 8 ∷ 21 ∷ 22 ∷ 24 ∷ 23 ∷ []
+numbersOf (calls (reportUpdate t x)) = 6 ∷ 7 ∷ 10 ∷ 21 ∷ 22 ∷ 24 ∷ 23 ∷ []
+numbersOf (calls (reportRollback t x)) = 6 ∷ 7 ∷ 10 ∷ 21 ∷ 22 ∷ 24 ∷ 23 ∷ []
+numbersOf (calls (edit c o)) = 6 ∷ 7 ∷ 2 ∷ 8 ∷ 0 ∷ []
+numbersOf (calls commit) = 6 ∷ 7 ∷ 2 ∷ 4 ∷ 0 ∷ []
+numbersOf (calls (recover n)) = 6 ∷ 7 ∷ 2 ∷ 4 ∷ 8 ∷ 0 ∷ []
+numbersOf (calls recoverRetained) = 6 ∷ 7 ∷ 2 ∷ 4 ∷ 0 ∷ []
+numbersOf (calls (refresh n)) = 6 ∷ 7 ∷ 1 ∷ 8 ∷ 0 ∷ []
+numbersOf (calls (stamp domain)) = 7 ∷ 1 ∷ 0 ∷ []
+numbersOf (calls (check domain d v)) = 7 ∷ 0 ∷ []
