@@ -7,3 +7,4 @@ pub mod Refusals
 pub mod OneRow
 pub mod ExactRefusals
 pub mod Lent
+pub mod Written

@@ -5,7 +5,7 @@ use mathlib.Core.Path.{_≡_, refl, sym, _∙_, ap}
 use mathlib.Core.Bool.{Bool, true, false, not}
 use mathlib.Core.List.{List, [], _∷_}
 use lib.Dec.{eqb}
-use borrow.Author.Tests.{eqb-false, eq-eqb, ne-eqb}
+use borrow.Author.Tests.{not-true, eqb-false, eq-eqb, ne-eqb}
 use Rattle.choice.specs.Pick.{pick, _and_, _or_}
 use Rattle.choice.proofs.Tests.{never, both, neither, test}
 use Rattle.demands.specs.Rows.{Row, _when_, given, numbers, among, distinct, ends, count}
@@ -41,10 +41,6 @@ first-or-other k true rows h f =
     let z : count (given (k when true ∷ rows)) (numbers rows) ≡ 0 = none-equal k (numbers rows) h in simp (eq-eqb k k refl, z)
 first-or-other k false rows h f = simp (absent rows k h) (f refl)
 
-untrue : (b : Bool) → not b ≡ true → b ≡ false
-untrue true h = sym h
-untrue false h = refl
-
 ends-later : (row : Row) (rows : List Row) → ends (row ∷ rows) ≡ true → row .test ≡ false → ends rows ≡ true
 ends-later row [] h e = never (sym h ∙ e)
 ends-later row (next ∷ rows) h e = h
@@ -54,4 +50,4 @@ unfolding distinct
 one-row [] d e = never (sym e)
 one-row (row ∷ rows) d e =
     let p = both d in
-    first-or-other (row .number) (row .test) rows (untrue _ (p .0)) (λ f. one-row rows (p .1) (ends-later row rows e f))
+    first-or-other (row .number) (row .test) rows (not-true _ (p .0)) (λ f. one-row rows (p .1) (ends-later row rows e f))

@@ -1,0 +1,105 @@
+-- Of the refusals, exactly an ask's 4 and 5 are written, and then the log's head is sound. Assumes nothing.
+use Prim.Native.Nat.{ℕ}
+use mathlib.Core.Path.{_≡_, refl, sym, _∙_, ap}
+use mathlib.Core.Bool.{Bool, true, false, not}
+use mathlib.Core.List.{List, [], _∷_}
+use lib.Dec.{eqb, leb}
+use lib.ListN.{length}
+use borrow.Author.Tests.{not-false, lt-leb, eq-eqb, ne-eqb}
+use Rattle.choice.specs.Pick.{pick, _and_, _or_}
+use Rattle.choice.proofs.Tests.{never, both, either, no-left, tests}
+use Rattle.record.specs.Answers.{refused}
+use Rattle.record.specs.declared.Record.{Record}
+use Rattle.wholeness.specs.Whole.{whole}
+use Rattle.log.specs.Log.{logSized, sound}
+use Rattle.recording.specs.Recorded.{stepWritten, callWritten}
+use Rattle.demands.specs.Rows.{Row, _when_, given, among}
+use Rattle.demands.specs.Refusals.{gateRows, rows, numbersOf}
+use Rattle.demands.specs.Lending.{Lending, callOf, fits}
+use Rattle.demands.specs.Lending.Lending.{openAt, begin, askStructure, askUpdate, askRollback, reportStructure, reportUpdate, reportRollback, commit, recover, recoverRetained, refresh}
+use Rattle.demands.specs.Contracts.{kindOf, asks, written, inner}
+use Rattle.demands.proofs.ExactRefusals.{exact-refusals, listed-answer}
+
+refused-call : (n : ℕ) → refused n ≡ true → callWritten n ≡ false
+unfolding refused callWritten
+refused-call n h = let p = both h in ne-eqb n 0 (λ e. omega tests)
+
+or-false : (b : Bool) → b or false ≡ b
+unfolding _or_
+or-false true = refl
+or-false false = refl
+
+-- of what asks and reports are refused, 4 and 5 are written
+refused-step : (n : ℕ) → refused n ≡ true → stepWritten n ≡ eqb n 4 or eqb n 5
+unfolding stepWritten refused
+refused-step n h = let p = both h in ap (λ (b : Bool). eqb n 4 or eqb n 5 or b) (no-left (leb n 24) (lt-leb 20 n (omega tests))) ∙ or-false _
+
+-- a call that does not answer k answers another number
+unlisted : (n k : ℕ) (ns : List ℕ) → among n ns ≡ true → among k ns ≡ false → eqb n k ≡ false
+unlisted n k ns h e = ne-eqb n k (λ p. never (sym h ∙ ap (λ (m : ℕ). among m ns) p ∙ e))
+
+-- nor does it answer 4 or 5
+refused-report : (n : ℕ) (ns : List ℕ) → refused n ≡ true → among n ns ≡ true → among 4 ns ≡ false → among 5 ns ≡ false → stepWritten n ≡ false
+unfolding _or_
+refused-report n ns h l p q = refused-step n h ∙ simp (unlisted n 4 ns l p, unlisted n 5 ns l q)
+
+-- behind 6 and 7 the tests of both have failed
+behind-gate : (a b : Bool) (rest : List Row) (n : ℕ) → given (6 when a ∷ 7 when b ∷ rest) n ≡ true → eqb 6 n ≡ false → eqb 7 n ≡ false → b ≡ false
+unfolding given pick
+behind-gate true b rest n h p q = never (sym h ∙ p)
+behind-gate false true rest n h p q = never (sym h ∙ q)
+behind-gate false false rest n h p q = refl
+
+-- a refusal of number n is written exactly if it is an ask's 4 or 5, and then the head is sound
+pub record Noted (log : List ℕ) (kind n : ℕ) : Type 0 where
+  pub exactly : written kind n ≡ asks kind and (eqb n 4 or eqb n 5)
+  pub clean : asks kind and (eqb n 4 or eqb n 5) ≡ true → sound log ≡ true
+
+-- 4 and 5 are neither 6 nor 7
+neither-gate : (n : ℕ) → eqb n 4 or eqb n 5 ≡ true → (eqb 6 n ≡ false) × (eqb 7 n ≡ false)
+neither-gate n e =
+    either e (λ x. (ne-eqb 6 n (λ y. omega tests), ne-eqb 7 n (λ y. omega tests))) (λ x. (ne-eqb 6 n (λ y. omega tests), ne-eqb 7 n (λ y. omega tests)))
+
+module _ (r : Record) (log : List ℕ) where
+  abbrev number : Lending true → ℕ
+  number c = inner r log c .number
+
+  abbrev rowsOf : Lending true → List Row
+  rowsOf c = rows (fits c and logSized (length log)) (sound log) r (callOf c)
+
+  abbrev Says : Lending true → Type 0
+  Says c = refused (number c) ≡ true → Noted log (kindOf c) (number c)
+
+  no-ask : (c : Lending true) → (refused (number c) ≡ true → written (kindOf c) (number c) ≡ false) → asks (kindOf c) ≡ false → Says c
+  no-ask c w a h = let z = no-left (eqb (number c) 4 or eqb (number c) 5) a in record { exactly = w h ∙ sym z; clean = λ e. never (sym e ∙ z) }
+
+  report : (c : Lending true) → among 4 (numbersOf (callOf c)) ≡ false → among 5 (numbersOf (callOf c)) ≡ false → refused (number c) ≡ true → stepWritten (number c) ≡ false
+  unfolding inner
+  report c p q h = refused-report (number c) _ h (listed-answer _ _ r (callOf c)) p q
+
+  ask : (c : Lending true) {rest : List Row} → written (kindOf c) (number c) ≡ stepWritten (number c) → asks (kindOf c) ≡ true
+      → rowsOf c ≡ gateRows (fits c and logSized (length log)) (sound log) r rest → Says c
+  unfolding inner _and_
+  ask c w a e h =
+      let g = sym (ap (λ (rs : List Row). given rs (number c)) e) ∙ sym (exact-refusals _ _ r (callOf c) (number c)) ∙ eq-eqb (number c) (number c) refl in
+      let z : asks (kindOf c) and (eqb (number c) 4 or eqb (number c) 5) ≡ eqb (number c) 4 or eqb (number c) 5 = ap (λ (b : Bool). b and (eqb (number c) 4 or eqb (number c) 5)) a in
+      record {
+        exactly = w ∙ refused-step (number c) h ∙ sym z;
+        clean = λ f. let k = neither-gate (number c) (sym z ∙ f) in both (not-false _ (behind-gate _ _ _ (number c) g (k .0) (k .1))) .0;
+      }
+
+  pub noted : (c : Lending true) → Says c
+  unfolding kindOf written callOf numbersOf among pick _and_ _or_ rows
+  noted (openAt v s a p) = no-ask (openAt v s a p) (λ h. refl) refl
+  noted (begin true c o t new old pairs) = no-ask (begin true c o t new old pairs) (refused-call _) refl
+  noted (begin false c o t new old pairs) = no-ask (begin false c o t new old pairs) (refused-call _) refl
+  noted askStructure = ask askStructure refl refl refl
+  noted askUpdate = ask askUpdate refl refl refl
+  noted askRollback = ask askRollback refl refl refl
+  noted (reportStructure c o ticket x new old) = no-ask (reportStructure c o ticket x new old) (report (reportStructure c o ticket x new old) refl refl) refl
+  noted (reportUpdate t ticket x payload) = no-ask (reportUpdate t ticket x payload) (report (reportUpdate t ticket x payload) refl refl) refl
+  noted (reportRollback t ticket x payload) = no-ask (reportRollback t ticket x payload) (report (reportRollback t ticket x payload) refl refl) refl
+  noted (commit a c) = no-ask (commit a c) (refused-call _) refl
+  noted (recover a x m) = no-ask (recover a x m) (refused-call _) refl
+  noted (recoverRetained a o x) = no-ask (recoverRetained a o x) (refused-call _) refl
+  noted (refresh a x m) = no-ask (refresh a x m) (refused-call _) refl
