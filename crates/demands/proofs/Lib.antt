@@ -8,3 +8,4 @@ pub mod OneRow
 pub mod ExactRefusals
 pub mod Lent
 pub mod Written
+pub mod Logged
