@@ -1,11 +1,10 @@
 -- Document 01: "Numbers 1 to 13 are refusals, each given exactly when its line or step says". For the opening and every call on a
 -- record: the answer of number n is given exactly by its row, exactly one row is given, and no other number is answered. Assumes nothing.
 use Prim.Native.Nat.{ℕ}
-use mathlib.Core.Path.{_≡_, refl, sym, _∙_, ap}
+use mathlib.Core.Path.{_≡_, refl, ap}
 use mathlib.Core.Bool.{Bool, true, false, not}
-use mathlib.Core.List.{List, [], _∷_}
+use mathlib.Core.List.{[], _∷_}
 use lib.Dec.{eqb}
-use borrow.Author.Tests.{eq-eqb}
 use Rattle.choice.specs.Pick.{pick, _and_, _or_}
 use Rattle.choice.proofs.Tests.{never}
 use Rattle.record.specs.Answers.{Said, refused}
@@ -14,15 +13,11 @@ use Rattle.wholeness.specs.Whole.{whole}
 use Rattle.stamping.specs.Stamping.{passes, checkStep}
 use Rattle.demands.specs.Calls.{Call, stepWith}
 use Rattle.demands.specs.Calls.Call.{begin, beginStructural, askStructure, askUpdate, askRollback, reportStructure, reportUpdate, reportRollback, edit, commit, recover, recoverRetained, refresh, stamp, check}
-use Rattle.demands.specs.Rows.{Row, given, numbers, among, distinct, ends, count}
+use Rattle.demands.specs.Rows.{given, among, distinct, count}
 use Rattle.demands.specs.Refusals.{AnyCall, stepOf, returned, rows, numbersOf}
 use Rattle.demands.specs.Refusals.AnyCall.{opens, calls}
-use Rattle.demands.proofs.OneRow.{present, one-row}
+use Rattle.demands.proofs.OneRow.{Listed, one-given, one-listed}
 use Rattle.demands.proofs.Refusals.{fits}
-
--- rows with the numbers ns, which are distinct; the last always holds
-abbrev Listed : List Row → List ℕ → Type 0
-Listed rows ns = (numbers rows ≡ ns) × (distinct ns ≡ true) × (ends rows ≡ true)
 
 says-second : (a b : Bool) (x y z : Said) → a ≡ false → pick a x (pick b y z) .values ≡ pick b (y .values) (z .values)
 unfolding pick
@@ -57,15 +52,11 @@ module _ (sized sound : Bool) (r : Record) where
 
     -- the rows are complete and disjoint: exactly one is given
     pub one-answer : count (given (rows sized sound r c)) (numbersOf c) ≡ 1
-    one-answer =
-        let l = all-listed c in
-        ap (count (given (rows sized sound r c))) (sym (l .0)) ∙ one-row (rows sized sound r c) (ap distinct (l .0) ∙ l .1) (l .2)
+    one-answer = one-given (rows sized sound r c) (all-listed c)
 
     -- the answer is one of document 01's list
     pub listed-answer : among (stepOf sized sound r c .number) (numbersOf c) ≡ true
-    listed-answer =
-        ap (among (stepOf sized sound r c .number)) (sym (all-listed c .0))
-        ∙ present (rows sized sound r c) _ (sym (exact-refusals _) ∙ eq-eqb (stepOf sized sound r c .number) _ refl)
+    listed-answer = one-listed (rows sized sound r c) (all-listed c) (fits sized sound r c)
 
     -- a refusal returns the record that was given
     pub refusal-returns : refused (stepOf sized sound r c .number) ≡ true → stepOf sized sound r c .state ≡ returned r c

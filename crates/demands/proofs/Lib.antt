@@ -3,9 +3,10 @@ pub mod Exhibits
 pub mod Unique
 pub mod Logbook
 pub mod Rows
-pub mod Refusals
 pub mod OneRow
+pub mod Refusals
 pub mod ExactRefusals
 pub mod Lent
 pub mod Written
 pub mod Logged
+pub mod Marks

@@ -9,6 +9,7 @@ use borrow.Author.Tests.{not-true, eqb-false, eq-eqb, ne-eqb}
 use Rattle.choice.specs.Pick.{pick, _and_, _or_}
 use Rattle.choice.proofs.Tests.{never, both, neither, test}
 use Rattle.demands.specs.Rows.{Row, _when_, given, numbers, among, distinct, ends, count}
+use Rattle.demands.proofs.Rows.{View, Fits}
 
 turned-round : (a b : ℕ) → eqb a b ≡ false → eqb b a ≡ false
 turned-round a b h = ne-eqb b a (λ e. eqb-false a b h (sym e))
@@ -25,7 +26,7 @@ absent [] n h = refl
 absent (row ∷ rows) n h = let p = neither h in both-false (row .test) (p .0) (absent rows n (p .1))
 
 -- a number that is given is one of theirs
-pub present : (rows : List Row) (n : ℕ) → given rows n ≡ true → among n (numbers rows) ≡ true
+present : (rows : List Row) (n : ℕ) → given rows n ≡ true → among n (numbers rows) ≡ true
 present rows n h = test (among n (numbers rows)) (λ e. e) (λ e. never (sym h ∙ absent rows n e))
 
 none-equal : (k : ℕ) (ns : List ℕ) → among k ns ≡ false → count (eqb k) ns ≡ 0
@@ -45,9 +46,22 @@ ends-later : (row : Row) (rows : List Row) → ends (row ∷ rows) ≡ true → 
 ends-later row [] h e = never (sym h ∙ e)
 ends-later row (next ∷ rows) h e = h
 
-pub one-row : (rows : List Row) → distinct (numbers rows) ≡ true → ends rows ≡ true → count (given rows) (numbers rows) ≡ 1
+one-row : (rows : List Row) → distinct (numbers rows) ≡ true → ends rows ≡ true → count (given rows) (numbers rows) ≡ 1
 unfolding distinct
 one-row [] d e = never (sym e)
 one-row (row ∷ rows) d e =
     let p = both d in
     first-or-other (row .number) (row .test) rows (not-true _ (p .0)) (λ f. one-row rows (p .1) (ends-later row rows e f))
+
+-- rows with the numbers ns, which are distinct; the last always holds
+abbrev pub Listed : List Row → List ℕ → Type 0
+Listed rows ns = (numbers rows ≡ ns) × (distinct ns ≡ true) × (ends rows ≡ true)
+
+-- exactly one of the numbers is given
+pub one-given : (rows : List Row) {ns : List ℕ} → Listed rows ns → count (given rows) ns ≡ 1
+one-given rows l = ap (count (given rows)) (sym (l .0)) ∙ one-row rows (ap distinct (l .0) ∙ l .1) (l .2)
+
+-- and it is what an answer that fits the rows has
+pub one-listed : {A : Type 0} {v : View A} {x : A} (rows : List Row) {ns : List ℕ} → Listed rows ns → Fits v x rows → among (v .number x) ns ≡ true
+one-listed {v} {x} rows l f =
+    ap (among (v .number x)) (sym (l .0)) ∙ present rows (v .number x) (sym (f .exact (v .number x)) ∙ eq-eqb (v .number x) (v .number x) refl)

@@ -4,3 +4,4 @@ pub mod Rows
 pub mod Refusals
 pub mod Lending
 pub mod Contracts
+pub mod Marks
