@@ -11,7 +11,7 @@ use Rattle.record.specs.Answers.{Said, refused}
 use Rattle.record.specs.declared.Record.{Record}
 use Rattle.wholeness.specs.Whole.{whole}
 use Rattle.stamping.specs.Stamping.{passes, checkStep}
-use Rattle.demands.specs.Calls.{Call, stepWith}
+use Rattle.demands.specs.Calls.{stepWith}
 use Rattle.demands.specs.Calls.Call.{begin, beginStructural, askStructure, askUpdate, askRollback, reportStructure, reportUpdate, reportRollback, edit, commit, recover, recoverRetained, refresh, stamp, check}
 use Rattle.demands.specs.Rows.{given, among, distinct, count}
 use Rattle.demands.specs.Refusals.{AnyCall, stepOf, returned, rows, numbersOf}

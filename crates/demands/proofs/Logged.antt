@@ -27,7 +27,7 @@ use Rattle.demands.specs.Lending.{Lending, callOf, lent, fits}
 use Rattle.demands.specs.Lending.Lending.{openAt, begin, askStructure, askUpdate, askRollback, reportStructure, reportUpdate, reportRollback, commit, recover, recoverRetained, refresh}
 use Rattle.demands.specs.Contracts.{recordedOf, kindOf, asks, written, inner, logAfter}
 use Rattle.demands.proofs.ExactRefusals.{exact-refusals, listed-answer, refusal-returns}
-use Rattle.demands.proofs.Written.{Noted, noted}
+use Rattle.demands.proofs.Written.{noted}
 
 test-of : (b : Bool) (x y : ℕ) (f : ℕ → Bool) {p q : Bool} → f x ≡ p → f y ≡ q → f (pick b x y) ≡ pick b p q
 unfolding pick

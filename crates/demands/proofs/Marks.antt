@@ -2,10 +2,9 @@
 -- the status bytes; the group bytes are only read, by their type. Assumes nothing.
 use Prim.Native.Nat.{ℕ}
 use mathlib.Core.Path.{_≡_, refl}
-use mathlib.Core.Bool.{Bool, true}
-use mathlib.Core.List.{List, [], _∷_}
+use mathlib.Core.Bool.{true}
+use mathlib.Core.List.{List}
 use lib.Dec.{eqb}
-use lib.ListN.{getD}
 use Rattle.choice.specs.Pick.{_and_, _or_}
 use Rattle.record.specs.Answers.{refused}
 use Rattle.status.specs.Status.{Marks, put, entryOf, marking, withInitialized, withCancelled, linkLeaves, initializeLeaves, cancelLeaves}

@@ -1,12 +1,12 @@
 -- Of rows with distinct numbers, the last of which always holds, exactly one is given: the cases are complete and disjoint. Assumes
 -- nothing.
-use Prim.Native.Nat.{ℕ, _+_}
+use Prim.Native.Nat.{ℕ}
 use mathlib.Core.Path.{_≡_, refl, sym, _∙_, ap}
-use mathlib.Core.Bool.{Bool, true, false, not}
+use mathlib.Core.Bool.{Bool, true, false}
 use mathlib.Core.List.{List, [], _∷_}
 use lib.Dec.{eqb}
 use borrow.Author.Tests.{not-true, eqb-false, eq-eqb, ne-eqb}
-use Rattle.choice.specs.Pick.{pick, _and_, _or_}
+use Rattle.choice.specs.Pick.{pick}
 use Rattle.choice.proofs.Tests.{never, both, neither, test}
 use Rattle.demands.specs.Rows.{Row, _when_, given, numbers, among, distinct, ends, count}
 use Rattle.demands.proofs.Rows.{View, Fits}

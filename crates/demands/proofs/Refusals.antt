@@ -1,13 +1,12 @@
 -- The opening and every call on a record fit their rows: each answer is given exactly when its row says, and a refusal returns the
 -- record that was given. Assumes nothing.
 use Prim.Native.Nat.{ℕ, _+_}
-use mathlib.Core.Path.{_≡_, refl, sym, _∙_, ap, subst}
+use mathlib.Core.Path.{_≡_, refl, ap, subst}
 use mathlib.Core.Bool.{Bool, true, false, not}
 use mathlib.Core.List.{List, [], _∷_}
-use Rattle.choice.specs.Pick.{pick, _and_, _or_}
+use Rattle.choice.specs.Pick.{pick, _and_}
 use Rattle.choice.proofs.Tests.{both}
 use Rattle.phases.specs.Phases.{hasSuccessor, successor, boundary}
-use Rattle.phases.specs.declared.Next.the-variants.{To, Nowhere}
 use Rattle.record.specs.Live.{isLive, structure, update, rollback}
 use Rattle.record.specs.Answers.{Told, told, refused, refuse, refusalNumber}
 use Rattle.record.specs.declared.Record.{Record}
@@ -26,8 +25,8 @@ use Rattle.asking.specs.Asks.{askStructureOwn, askUpdateOwn, askRollbackOwn}
 use Rattle.reporting.specs.Done.{onward, advanced, structureDone, updateDone, rollbackDone}
 use Rattle.reporting.specs.Reports.{behind, reportGate, reported, reportStructureOwn}
 use Rattle.settling.specs.Ending.{commitOwn, unrestored, recoverOwn, recoverRetainedOwn, refreshOwn}
-use Rattle.stamping.specs.Stamping.{stampStep, passes, checkStep}
-use Rattle.demands.specs.Calls.{Call, stepWith}
+use Rattle.stamping.specs.Stamping.{stampStep, checkStep}
+use Rattle.demands.specs.Calls.{stepWith}
 use Rattle.demands.specs.Calls.Call.{begin, beginStructural, askStructure, askUpdate, askRollback, reportStructure, reportUpdate, reportRollback, edit, commit, recover, recoverRetained, refresh, stamp, check}
 use Rattle.demands.specs.Rows.{Row, _when_, otherwise}
 use Rattle.demands.specs.Refusals.{AnyCall, stepOf, returned, gateRows, beginRows, reportRows, rows}

@@ -1,8 +1,8 @@
 -- Of the refusals, exactly an ask's 4 and 5 are written, and then the log's head is sound. Assumes nothing.
 use Prim.Native.Nat.{ℕ}
 use mathlib.Core.Path.{_≡_, refl, sym, _∙_, ap}
-use mathlib.Core.Bool.{Bool, true, false, not}
-use mathlib.Core.List.{List, [], _∷_}
+use mathlib.Core.Bool.{Bool, true, false}
+use mathlib.Core.List.{List, _∷_}
 use lib.Dec.{eqb, leb}
 use lib.ListN.{length}
 use borrow.Author.Tests.{not-false, lt-leb, eq-eqb, ne-eqb}
@@ -10,7 +10,6 @@ use Rattle.choice.specs.Pick.{pick, _and_, _or_}
 use Rattle.choice.proofs.Tests.{never, both, either, no-left, tests}
 use Rattle.record.specs.Answers.{refused}
 use Rattle.record.specs.declared.Record.{Record}
-use Rattle.wholeness.specs.Whole.{whole}
 use Rattle.log.specs.Log.{logSized, sound}
 use Rattle.recording.specs.Recorded.{stepWritten, callWritten}
 use Rattle.demands.specs.Rows.{Row, _when_, given, among}
