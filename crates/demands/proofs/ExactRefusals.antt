@@ -17,7 +17,7 @@ use Rattle.demands.specs.Rows.{given, among, distinct, count}
 use Rattle.demands.specs.Refusals.{AnyCall, stepOf, returned, rows, numbersOf}
 use Rattle.demands.specs.Refusals.AnyCall.{opens, calls}
 use Rattle.demands.proofs.OneRow.{Listed, one-given, one-listed}
-use Rattle.demands.proofs.Refusals.{fits}
+use Rattle.demands.proofs.Refusals.{fits-rows}
 
 says-second : (a b : Bool) (x y z : Said) → a ≡ false → pick a x (pick b y z) .values ≡ pick b (y .values) (z .values)
 unfolding pick
@@ -48,7 +48,7 @@ module _ (sized sound : Bool) (r : Record) where
   module _ (c : AnyCall) where
     -- an answer is given exactly when its row says
     pub exact-refusals : (n : ℕ) → eqb (stepOf sized sound r c .number) n ≡ given (rows sized sound r c) n
-    exact-refusals = fits sized sound r c .exact
+    exact-refusals = fits-rows sized sound r c .exact
 
     -- the rows are complete and disjoint: exactly one is given
     pub one-answer : count (given (rows sized sound r c)) (numbersOf c) ≡ 1
@@ -56,11 +56,11 @@ module _ (sized sound : Bool) (r : Record) where
 
     -- the answer is one of document 01's list
     pub listed-answer : among (stepOf sized sound r c .number) (numbersOf c) ≡ true
-    listed-answer = one-listed (rows sized sound r c) (all-listed c) (fits sized sound r c)
+    listed-answer = one-listed (rows sized sound r c) (all-listed c) (fits-rows sized sound r c)
 
     -- a refusal returns the record that was given
     pub refusal-returns : refused (stepOf sized sound r c .number) ≡ true → stepOf sized sound r c .state ≡ returned r c
-    refusal-returns = fits sized sound r c .kept
+    refusal-returns = fits-rows sized sound r c .kept
 
   -- "checking a stamp answers yes, no or 7": of a whole record yes, 1, exactly where the stamp passes, and else no, 0
   pub check-says : (domain d v : ℕ) → whole r ≡ true → stepWith sized sound r (check domain d v) .values ≡ pick (passes r domain d v) (1 ∷ []) (0 ∷ [])

@@ -6,7 +6,8 @@ pub mod Rows
 pub mod OneRow
 pub mod Refusals
 pub mod ExactRefusals
-pub mod Lent
+pub mod Transaction
 pub mod Written
 pub mod Logged
+pub mod Recorder
 pub mod Marks

@@ -32,11 +32,11 @@ module _ (groups status : List ℕ) (id : ℕ) where
       F : Entry → Marks
       F e = marking e status (allowed c) next
 
-  fits : (c : StatusCall) → Fits leaving (marksOf groups status id c) (statusRows groups status id c)
+  fits-rows : (c : StatusCall) → Fits leaving (marksOf groups status id c) (statusRows groups status id c)
   unfolding marksOf linkLeaves initializeLeaves cancelLeaves allowed
-  fits (link domain) = marks-fit (link domain) (λ mark. 1)
-  fits initialize = marks-fit initialize withInitialized
-  fits cancel = marks-fit cancel withCancelled
+  fits-rows (link domain) = marks-fit (link domain) (λ mark. 1)
+  fits-rows initialize = marks-fit initialize withInitialized
+  fits-rows cancel = marks-fit cancel withCancelled
 
   module _ (c : StatusCall) where
     all-listed : Listed (statusRows groups status id c) statusNumbers
@@ -44,13 +44,13 @@ module _ (groups status : List ℕ) (id : ℕ) where
     all-listed = (refl, refl, refl)
 
     pub status-exact : (n : ℕ) → eqb (marksOf groups status id c .said .number) n ≡ given (statusRows groups status id c) n
-    status-exact = fits c .exact
+    status-exact = fits-rows c .exact
 
     pub status-one : count (given (statusRows groups status id c)) statusNumbers ≡ 1
     status-one = one-given (statusRows groups status id c) all-listed
 
     pub status-listed : among (marksOf groups status id c .said .number) statusNumbers ≡ true
-    status-listed = one-listed (statusRows groups status id c) all-listed (fits c)
+    status-listed = one-listed (statusRows groups status id c) all-listed (fits-rows c)
 
     pub status-refusal : refused (marksOf groups status id c .said .number) ≡ true → marksOf groups status id c .status ≡ status
-    status-refusal = fits c .kept
+    status-refusal = fits-rows c .kept

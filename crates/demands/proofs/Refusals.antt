@@ -90,26 +90,26 @@ module _ (sized sound : Bool) (r : Record) where
       gated-call r sized sound
       (row _ (stays refl refl) (λ _. row _ (stays refl refl) (λ _. row _ (stays refl refl) (λ _. row _ (stays refl refl) (λ _. now (goes refl refl))))))
 
-  pub fits : (c : AnyCall) → Fits (telling (returned r c)) (stepOf sized sound r c) (rows sized sound r c)
+  pub fits-rows : (c : AnyCall) → Fits (telling (returned r c)) (stepOf sized sound r c) (rows sized sound r c)
   unfolding stepOf stepWith returned rows refused _and_ openStep askStructureOwn askUpdateOwn askRollbackOwn reportStructureOwn updateDone rollbackDone editOwn commitOwn unrestored recoverOwn recoverRetainedOwn refreshOwn stampStep checkStep
-  fits (opens v s n) = row _ (stays refl refl) (λ _. row _ (stays refl refl) (λ _. now (goes refl refl)))
-  fits (calls (begin c o n)) = begins false c o n
-  fits (calls (beginStructural c o n)) = begins true c o n
-  fits (calls askStructure) =
+  fits-rows (opens v s n) = row _ (stays refl refl) (λ _. row _ (stays refl refl) (λ _. now (goes refl refl)))
+  fits-rows (calls (begin c o n)) = begins false c o n
+  fits-rows (calls (beginStructural c o n)) = begins true c o n
+  fits-rows (calls askStructure) =
       gated-call r sized sound (row _ (stays refl refl) (λ _. row _ (goes refl refl) (λ _. row _ (stays refl refl) (λ _. now (goes refl refl)))))
-  fits (calls askUpdate) =
+  fits-rows (calls askUpdate) =
       gated-call r sized sound (row _ (stays refl refl) (λ _. row _ (goes refl refl) (λ _. row _ (stays refl refl) (λ _. now (goes refl refl)))))
-  fits (calls askRollback) =
+  fits-rows (calls askRollback) =
       gated-call r sized sound (around _ _ _ (goes refl refl) (row _ (stays refl refl) (λ _. row _ (goes refl refl) (λ _. now (goes refl refl)))))
-  fits (calls (reportStructure t x c o)) =
+  fits-rows (calls (reportStructure t x c o)) =
       gated-report r sized sound structure t (λ w e. row _ (stays refl refl) (λ _. outcomes r x _ (structure-done r _ (live-structure _ t _ _ _ _ _ _ (parts w .live) e))))
-  fits (calls (reportUpdate t x)) = gated-report r sized sound update t (λ w e. outcomes r x _ (row _ (goes refl refl) (λ _. now (goes refl refl))))
-  fits (calls (reportRollback t x)) = gated-report r sized sound rollback t (λ w e. outcomes r x _ (row _ (goes refl refl) (λ _. now (goes refl refl))))
-  fits (calls (edit c o)) = gated-call r sized sound (row _ (stays refl refl) (λ _. row _ (stays refl refl) (λ _. now (goes refl refl))))
-  fits (calls commit) = gated-call r sized sound (row _ (stays refl refl) (λ _. row _ (stays refl refl) (λ _. now (goes refl refl))))
-  fits (calls (recover n)) =
+  fits-rows (calls (reportUpdate t x)) = gated-report r sized sound update t (λ w e. outcomes r x _ (row _ (goes refl refl) (λ _. now (goes refl refl))))
+  fits-rows (calls (reportRollback t x)) = gated-report r sized sound rollback t (λ w e. outcomes r x _ (row _ (goes refl refl) (λ _. now (goes refl refl))))
+  fits-rows (calls (edit c o)) = gated-call r sized sound (row _ (stays refl refl) (λ _. row _ (stays refl refl) (λ _. now (goes refl refl))))
+  fits-rows (calls commit) = gated-call r sized sound (row _ (stays refl refl) (λ _. row _ (stays refl refl) (λ _. now (goes refl refl))))
+  fits-rows (calls (recover n)) =
       gated-call r sized sound (row _ (stays refl refl) (λ _. row _ (stays refl refl) (λ _. row _ (stays refl refl) (λ _. now (goes refl refl)))))
-  fits (calls recoverRetained) = gated-call r sized sound (row _ (stays refl refl) (λ _. row _ (stays refl refl) (λ _. now (goes refl refl))))
-  fits (calls (refresh n)) = gated-call r sized sound (row _ (stays refl refl) (λ _. row _ (stays refl refl) (λ _. now (goes refl refl))))
-  fits (calls (stamp d)) = over (λ s. told s r) (row _ (stays refl refl) (λ _. row _ (stays refl refl) (λ _. now (goes refl refl))))
-  fits (calls (check d e v)) = over (λ s. told s r) (row _ (stays refl refl) (λ _. alike _ (now (goes refl refl)) (now (goes refl refl))))
+  fits-rows (calls recoverRetained) = gated-call r sized sound (row _ (stays refl refl) (λ _. row _ (stays refl refl) (λ _. now (goes refl refl))))
+  fits-rows (calls (refresh n)) = gated-call r sized sound (row _ (stays refl refl) (λ _. row _ (stays refl refl) (λ _. now (goes refl refl))))
+  fits-rows (calls (stamp d)) = over (λ s. told s r) (row _ (stays refl refl) (λ _. row _ (stays refl refl) (λ _. now (goes refl refl))))
+  fits-rows (calls (check d e v)) = over (λ s. told s r) (row _ (stays refl refl) (λ _. alike _ (now (goes refl refl)) (now (goes refl refl))))

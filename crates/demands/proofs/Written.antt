@@ -4,19 +4,18 @@ use mathlib.Core.Path.{_≡_, refl, sym, _∙_, ap}
 use mathlib.Core.Bool.{Bool, true, false}
 use mathlib.Core.List.{List, _∷_}
 use lib.Dec.{eqb, leb}
-use lib.ListN.{length}
 use borrow.Author.Tests.{not-false, lt-leb, eq-eqb, ne-eqb}
 use Rattle.choice.specs.Pick.{pick, _and_, _or_}
 use Rattle.choice.proofs.Tests.{never, both, either, no-left, tests}
 use Rattle.record.specs.Answers.{refused}
 use Rattle.record.specs.declared.Record.{Record}
-use Rattle.log.specs.Log.{logSized, sound}
+use Rattle.log.specs.Log.{sound}
 use Rattle.recording.specs.Recorded.{stepWritten, callWritten}
 use Rattle.demands.specs.Rows.{Row, _when_, given, among}
 use Rattle.demands.specs.Refusals.{gateRows, rows, numbersOf}
-use Rattle.demands.specs.Lending.{Lending, callOf, fits}
+use Rattle.demands.specs.Lending.{Lending, callOf}
 use Rattle.demands.specs.Lending.Lending.{openAt, begin, askStructure, askUpdate, askRollback, reportStructure, reportUpdate, reportRollback, commit, recover, recoverRetained, refresh}
-use Rattle.demands.specs.Contracts.{kindOf, asks, written, inner}
+use Rattle.demands.specs.Contracts.{kindOf, asks, written, fitsThrough, inner, entered}
 use Rattle.demands.proofs.ExactRefusals.{exact-refusals, listed-answer}
 
 refused-call : (n : ℕ) → refused n ≡ true → callWritten n ≡ false
@@ -51,8 +50,8 @@ behind-gate false false rest n h p q = refl
 
 -- a refusal of number n is written exactly if it is an ask's 4 or 5, and then the head is sound
 pub record Noted (log : List ℕ) (kind n : ℕ) : Type 0 where
-  pub exactly : written kind n ≡ asks kind and (eqb n 4 or eqb n 5)
-  pub clean : asks kind and (eqb n 4 or eqb n 5) ≡ true → sound log ≡ true
+  pub exactly : written kind n ≡ entered kind n
+  pub clean : entered kind n ≡ true → sound log ≡ true
 
 -- 4 and 5 are neither 6 nor 7
 neither-gate : (n : ℕ) → eqb n 4 or eqb n 5 ≡ true → (eqb 6 n ≡ false) × (eqb 7 n ≡ false)
@@ -64,12 +63,13 @@ module _ (r : Record) (log : List ℕ) where
   number c = inner r log c .number
 
   abbrev rowsOf : Lending true → List Row
-  rowsOf c = rows (fits c and logSized (length log)) (sound log) r (callOf c)
+  rowsOf c = rows (fitsThrough log c) (sound log) r (callOf c)
 
   abbrev Says : Lending true → Type 0
   Says c = refused (number c) ≡ true → Noted log (kindOf c) (number c)
 
   no-ask : (c : Lending true) → (refused (number c) ≡ true → written (kindOf c) (number c) ≡ false) → asks (kindOf c) ≡ false → Says c
+  unfolding entered
   no-ask c w a h = let z = no-left (eqb (number c) 4 or eqb (number c) 5) a in record { exactly = w h ∙ sym z; clean = λ e. never (sym e ∙ z) }
 
   report : (c : Lending true) → among 4 (numbersOf (callOf c)) ≡ false → among 5 (numbersOf (callOf c)) ≡ false → refused (number c) ≡ true → stepWritten (number c) ≡ false
@@ -77,11 +77,11 @@ module _ (r : Record) (log : List ℕ) where
   report c p q h = refused-report (number c) _ h (listed-answer _ _ r (callOf c)) p q
 
   ask : (c : Lending true) {rest : List Row} → written (kindOf c) (number c) ≡ stepWritten (number c) → asks (kindOf c) ≡ true
-      → rowsOf c ≡ gateRows (fits c and logSized (length log)) (sound log) r rest → Says c
-  unfolding inner _and_
+      → rowsOf c ≡ gateRows (fitsThrough log c) (sound log) r rest → Says c
+  unfolding inner entered _and_
   ask c w a e h =
       let g = sym (ap (λ (rs : List Row). given rs (number c)) e) ∙ sym (exact-refusals _ _ r (callOf c) (number c)) ∙ eq-eqb (number c) (number c) refl in
-      let z : asks (kindOf c) and (eqb (number c) 4 or eqb (number c) 5) ≡ eqb (number c) 4 or eqb (number c) 5 = ap (λ (b : Bool). b and (eqb (number c) 4 or eqb (number c) 5)) a in
+      let z : entered (kindOf c) (number c) ≡ eqb (number c) 4 or eqb (number c) 5 = ap (λ (b : Bool). b and (eqb (number c) 4 or eqb (number c) 5)) a in
       record {
         exactly = w ∙ refused-step (number c) h ∙ sym z;
         clean = λ f. let k = neither-gate (number c) (sym z ∙ f) in both (not-false _ (behind-gate _ _ _ (number c) g (k .0) (k .1))) .0;

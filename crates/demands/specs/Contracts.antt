@@ -1,8 +1,8 @@
--- The definition that the contract of each public function names, in the transaction and through the log; and what a refusal leaves
--- of the log. Assumes nothing.
+-- The definition that the contract of each public function names, in the transaction and through the log; what a call answers through
+-- the log, and what a refusal leaves of it. Assumes nothing.
 use Prim.Native.Nat.{ℕ}
 use mathlib.Core.Bool.{Bool, true, false}
-use mathlib.Core.List.{List, []}
+use mathlib.Core.List.{List, [], _∷_}
 use lib.Dec.{eqb, leb, ltb}
 use lib.ListN.{length}
 use Rattle.choice.specs.Pick.{pick, _and_, _or_}
@@ -15,13 +15,14 @@ use Rattle.begins.specs.Opens.{openLeaves}
 use Rattle.begins.specs.Begins.{beginLeaves, editLeaves}
 use Rattle.reports.specs.Reports.{reportStructureLeaves, reportUpdateLeaves, reportRollbackLeaves}
 use Rattle.ends.specs.Ends.{commitLeaves, recoverLeaves, recoverRetainedLeaves, refreshLeaves}
-use Rattle.log.specs.Log.{logSized, sound, event}
+use Rattle.log.specs.Log.{logSized, sound, full, event}
 use Rattle.recording.specs.Recorded.{stepWritten, callWritten}
 use Rattle.recording.specs.Asks.{askStructureRecorded, askUpdateRecorded, askRollbackRecorded}
 use Rattle.logged_begins.specs.Begins.{openRecorded, beginRecorded}
 use Rattle.logged_reports.specs.Reports.{reportStructureRecorded, reportUpdateRecorded, reportRollbackRecorded}
 use Rattle.logged_ends.specs.Ends.{commitRecorded, recoverRecorded, recoverRetainedRecorded, refreshRecorded}
-use Rattle.demands.specs.Refusals.{stepOf}
+use Rattle.demands.specs.Rows.{given}
+use Rattle.demands.specs.Refusals.{stepOf, rows, numbersOf}
 use Rattle.demands.specs.Lending.{Lending, callOf, fits}
 use Rattle.demands.specs.Lending.Lending.{openAt, begin, askStructure, askUpdate, askRollback, reportStructure, reportUpdate, reportRollback, edit, commit, recover, recoverRetained, refresh, stamp, check}
 
@@ -82,11 +83,27 @@ asks kind = eqb kind 3 or eqb kind 5 or eqb kind 7
 unfoldable pub written : ℕ → ℕ → Bool
 written kind n = pick (leb 3 kind and leb kind 8) (stepWritten n) (ltb 0 kind and callWritten n)
 
--- the inner answer: the call's own, the log with it among what is lent
-unfoldable pub inner : Record → List ℕ → Lending true → Told
-inner r log c = stepOf (fits c and logSized (length log)) (sound log) r (callOf c)
+-- what a call is lent through the log: "an area, table, pair list or log of a wrong size" is none of it
+unfoldable pub fitsThrough : List ℕ → Lending true → Bool
+fitsThrough log c = fits c and logSized (length log)
 
--- the log after a refusal of number n: "nothing changes but the log entry of an ask answered 4 or 5", which is "kind, answer, serial
--- after, revision after"
+-- the inner answer, the log among what is lent
+unfoldable pub inner : Record → List ℕ → Lending true → Told
+inner r log c = stepOf (fitsThrough log c) (sound log) r (callOf c)
+
+-- "12 last": LogFull, "no room for an event to be written", and else the inner answer by its row
+unfoldable pub givenThrough : Record → List ℕ → Lending true → ℕ → Bool
+givenThrough r log c n =
+    pick (written (kindOf c) (inner r log c .number) and full log) (eqb 12 n) (given (rows (fitsThrough log c) (sound log) r (callOf c)) n)
+
+-- 12 besides, where the call has a kind
+unfoldable pub numbersThrough : Lending true → List ℕ
+numbersThrough c = pick (ltb 0 (kindOf c)) (12 ∷ numbersOf (callOf c)) (numbersOf (callOf c))
+
+-- "the log entry of an ask answered 4 or 5"
+unfoldable pub entered : ℕ → ℕ → Bool
+entered kind n = asks kind and (eqb n 4 or eqb n 5)
+
+-- the log after a refusal of number n: it stays but for that entry, which is "kind, answer, serial after, revision after"
 unfoldable pub logAfter : Record → List ℕ → ℕ → ℕ → List ℕ
-logAfter r log kind n = pick (asks kind and (eqb n 4 or eqb n 5)) (event kind n (r .serial) (r .revision) log) log
+logAfter r log kind n = pick (entered kind n) (event kind n (r .serial) (r .revision) log) log
