@@ -70,7 +70,7 @@ module _ (r : Record) (log : List ℕ) where
 
   no-ask : (c : Lending true) → (refused (number c) ≡ true → written (kindOf c) (number c) ≡ false) → asks (kindOf c) ≡ false → Says c
   unfolding entered
-  no-ask c w a h = let z = no-left (eqb (number c) 4 or eqb (number c) 5) a in record { exactly = w h ∙ sym z; clean = λ e. never (sym e ∙ z) }
+  no-ask c w a h = let z : entered (kindOf c) (number c) ≡ false = no-left _ a in record { exactly = w h ∙ sym z; clean = λ e. never (sym e ∙ z) }
 
   report : (c : Lending true) → among 4 (numbersOf (callOf c)) ≡ false → among 5 (numbersOf (callOf c)) ≡ false → refused (number c) ≡ true → stepWritten (number c) ≡ false
   unfolding inner
@@ -81,7 +81,7 @@ module _ (r : Record) (log : List ℕ) where
   unfolding inner entered _and_
   ask c w a e h =
       let g = sym (ap (λ (rs : List Row). given rs (number c)) e) ∙ sym (exact-refusals _ _ r (callOf c) (number c)) ∙ eq-eqb (number c) (number c) refl in
-      let z : entered (kindOf c) (number c) ≡ eqb (number c) 4 or eqb (number c) 5 = ap (λ (b : Bool). b and (eqb (number c) 4 or eqb (number c) 5)) a in
+      let z : entered (kindOf c) (number c) ≡ eqb (number c) 4 or eqb (number c) 5 = simp a in
       record {
         exactly = w ∙ refused-step (number c) h ∙ sym z;
         clean = λ f. let k = neither-gate (number c) (sym z ∙ f) in both (not-false _ (behind-gate _ _ _ (number c) g (k .0) (k .1))) .0;
