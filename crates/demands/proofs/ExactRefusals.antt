@@ -26,24 +26,24 @@ says-second false true x y z h = refl
 says-second false false x y z h = refl
 
 module _ (sized sound : Bool) (r : Record) where
-  all-listed : (c : AnyCall) → Listed (rows sized sound r c) (numbersOf c)
+  pub all-listed : (c : AnyCall) → Listed (rows sized sound r c) (numbersOf c)
   unfolding rows numbersOf distinct among _and_ _or_
-  all-listed (opens v s n) = (refl, refl, refl)
-  all-listed (calls (begin c o n)) = (refl, refl, refl)
-  all-listed (calls (beginStructural c o n)) = (refl, refl, refl)
-  all-listed (calls askStructure) = (refl, refl, refl)
-  all-listed (calls askUpdate) = (refl, refl, refl)
-  all-listed (calls askRollback) = (refl, refl, refl)
-  all-listed (calls (reportStructure t x c o)) = (refl, refl, refl)
-  all-listed (calls (reportUpdate t x)) = (refl, refl, refl)
-  all-listed (calls (reportRollback t x)) = (refl, refl, refl)
-  all-listed (calls (edit c o)) = (refl, refl, refl)
-  all-listed (calls commit) = (refl, refl, refl)
-  all-listed (calls (recover n)) = (refl, refl, refl)
-  all-listed (calls recoverRetained) = (refl, refl, refl)
-  all-listed (calls (refresh n)) = (refl, refl, refl)
-  all-listed (calls (stamp d)) = (refl, refl, refl)
-  all-listed (calls (check d e v)) = (refl, refl, refl)
+  all-listed (opens v s n) = (refl, refl)
+  all-listed (calls (begin c o n)) = (refl, refl)
+  all-listed (calls (beginStructural c o n)) = (refl, refl)
+  all-listed (calls askStructure) = (refl, refl)
+  all-listed (calls askUpdate) = (refl, refl)
+  all-listed (calls askRollback) = (refl, refl)
+  all-listed (calls (reportStructure t x c o)) = (refl, refl)
+  all-listed (calls (reportUpdate t x)) = (refl, refl)
+  all-listed (calls (reportRollback t x)) = (refl, refl)
+  all-listed (calls (edit c o)) = (refl, refl)
+  all-listed (calls commit) = (refl, refl)
+  all-listed (calls (recover n)) = (refl, refl)
+  all-listed (calls recoverRetained) = (refl, refl)
+  all-listed (calls (refresh n)) = (refl, refl)
+  all-listed (calls (stamp d)) = (refl, refl)
+  all-listed (calls (check d e v)) = (refl, refl)
 
   module _ (c : AnyCall) where
     -- an answer is given exactly when its row says
@@ -52,7 +52,7 @@ module _ (sized sound : Bool) (r : Record) where
 
     -- the rows are complete and disjoint: exactly one is given
     pub one-answer : count (given (rows sized sound r c)) (numbersOf c) ≡ 1
-    one-answer = one-given (rows sized sound r c) (all-listed c)
+    one-answer = one-given (rows sized sound r c) (all-listed c) (fits-rows sized sound r c)
 
     -- the answer is one of document 01's list
     pub listed-answer : among (stepOf sized sound r c .number) (numbersOf c) ≡ true

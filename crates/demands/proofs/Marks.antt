@@ -41,13 +41,13 @@ module _ (groups status : List ℕ) (id : ℕ) where
   module _ (c : StatusCall) where
     all-listed : Listed (statusRows groups status id c) statusNumbers
     unfolding statusRows statusNumbers distinct among _and_ _or_
-    all-listed = (refl, refl, refl)
+    all-listed = (refl, refl)
 
     pub status-exact : (n : ℕ) → eqb (marksOf groups status id c .said .number) n ≡ given (statusRows groups status id c) n
     status-exact = fits-rows c .exact
 
     pub status-one : count (given (statusRows groups status id c)) statusNumbers ≡ 1
-    status-one = one-given (statusRows groups status id c) all-listed
+    status-one = one-given (statusRows groups status id c) all-listed (fits-rows c)
 
     pub status-listed : among (marksOf groups status id c .said .number) statusNumbers ≡ true
     status-listed = one-listed (statusRows groups status id c) all-listed (fits-rows c)

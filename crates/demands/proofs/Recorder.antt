@@ -13,11 +13,12 @@ use Rattle.record.specs.Answers.{refused}
 use Rattle.record.specs.declared.Record.{Record}
 use Rattle.recording.specs.Recorded.{callWritten}
 use Rattle.log.specs.Log.{full}
-use Rattle.demands.specs.Rows.{among}
+use Rattle.demands.specs.Rows.{among, distinct, count}
 use Rattle.demands.specs.Refusals.{returned, numbersOf}
 use Rattle.demands.specs.Lending.{Lending, callOf, lent}
 use Rattle.demands.specs.Contracts.{recordedOf, kindOf, written, inner, givenThrough, numbersThrough, logAfter}
-use Rattle.demands.proofs.ExactRefusals.{exact-refusals, listed-answer}
+use Rattle.demands.proofs.OneRow.{one-passes, apart}
+use Rattle.demands.proofs.ExactRefusals.{all-listed, exact-refusals, listed-answer}
 use Rattle.demands.proofs.Logged.{ends-as}
 
 tested : (b : Bool) (x y : ℕ) (f : ℕ → Bool) {p q : Bool} → f x ≡ p → f y ≡ q → f (pick b x y) ≡ pick b p q
@@ -43,6 +44,11 @@ twelve-listed true false n ns e h = never (e refl)
 twelve-listed false true n ns e h = either-way (eqb 12 n) h
 twelve-listed false false n ns e h = h
 
+distinct-through : (k : Bool) (ns : List ℕ) → distinct (12 ∷ ns) ≡ true → distinct (pick k (12 ∷ ns) ns) ≡ true
+unfolding pick
+distinct-through true ns d = d
+distinct-through false ns d = apart ns d
+
 module _ (r : Record) (log : List ℕ) (c : Lending true) where
   abbrev n : ℕ
   n = inner r log c .number
@@ -56,6 +62,12 @@ module _ (r : Record) (log : List ℕ) (c : Lending true) where
   recorder-listed =
       ap (λ (m : ℕ). among m (numbersThrough c)) (ends-as r log c .number)
       ∙ twelve-listed _ _ n (numbersOf (callOf c)) (λ e. no-left (full log) (no-kind (kindOf c) n e)) (listed-answer _ _ r (callOf c))
+
+  -- exactly one answer is given
+  pub recorder-one : count (givenThrough r log c) (numbersThrough c) ≡ 1
+  unfolding numbersThrough
+  recorder-one =
+      one-passes _ (givenThrough r log c) (numbersThrough c) recorder-exact (distinct-through _ (numbersOf (callOf c)) (all-listed true true r (callOf c) .1)) recorder-listed
 
   pub recorder-refusal : refused (recordedOf r log c .told .number) ≡ true
       → (recordedOf r log c .told .state ≡ returned r (callOf c))

@@ -1,5 +1,5 @@
 -- Of the refusals, exactly an ask's 4 and 5 are written, and then the log's head is sound. Assumes nothing.
-use Prim.Native.Nat.{ℕ}
+use Prim.Native.Nat.{ℕ, _≤_}
 use mathlib.Core.Path.{_≡_, refl, sym, _∙_, ap}
 use mathlib.Core.Bool.{Bool, true, false}
 use mathlib.Core.List.{List, _∷_}
@@ -36,7 +36,7 @@ refused-step n h = let p = both h in ap (λ (b : Bool). eqb n 4 or eqb n 5 or b)
 unlisted : (n k : ℕ) (ns : List ℕ) → among n ns ≡ true → among k ns ≡ false → eqb n k ≡ false
 unlisted n k ns h e = ne-eqb n k (λ p. never (sym h ∙ ap (λ (m : ℕ). among m ns) p ∙ e))
 
--- nor does it answer 4 or 5
+-- nor is what it is refused written, where it answers neither 4 nor 5
 refused-report : (n : ℕ) (ns : List ℕ) → refused n ≡ true → among n ns ≡ true → among 4 ns ≡ false → among 5 ns ≡ false → stepWritten n ≡ false
 unfolding _or_
 refused-report n ns h l p q = refused-step n h ∙ simp (unlisted n 4 ns l p, unlisted n 5 ns l q)
@@ -56,7 +56,7 @@ pub record Noted (log : List ℕ) (kind n : ℕ) : Type 0 where
 -- 4 and 5 are neither 6 nor 7
 neither-gate : (n : ℕ) → eqb n 4 or eqb n 5 ≡ true → (eqb 6 n ≡ false) × (eqb 7 n ≡ false)
 neither-gate n e =
-    either e (λ x. (ne-eqb 6 n (λ y. omega tests), ne-eqb 7 n (λ y. omega tests))) (λ x. (ne-eqb 6 n (λ y. omega tests), ne-eqb 7 n (λ y. omega tests)))
+    let p : n ≤ 5 = either e (λ x. omega tests) (λ x. omega tests) in (ne-eqb 6 n (λ y. omega tests), ne-eqb 7 n (λ y. omega tests))
 
 module _ (r : Record) (log : List ℕ) where
   abbrev number : Lending true → ℕ
@@ -68,14 +68,17 @@ module _ (r : Record) (log : List ℕ) where
   abbrev Says : Lending true → Type 0
   Says c = refused (number c) ≡ true → Noted log (kindOf c) (number c)
 
+  -- a call that is no ask, of which no refusal is written
   no-ask : (c : Lending true) → (refused (number c) ≡ true → written (kindOf c) (number c) ≡ false) → asks (kindOf c) ≡ false → Says c
   unfolding entered
   no-ask c w a h = let z : entered (kindOf c) (number c) ≡ false = no-left _ a in record { exactly = w h ∙ sym z; clean = λ e. never (sym e ∙ z) }
 
+  -- a report, which answers neither 4 nor 5
   report : (c : Lending true) → among 4 (numbersOf (callOf c)) ≡ false → among 5 (numbersOf (callOf c)) ≡ false → refused (number c) ≡ true → stepWritten (number c) ≡ false
   unfolding inner
   report c p q h = refused-report (number c) _ h (listed-answer _ _ r (callOf c)) p q
 
+  -- an ask, which answers 4 and 5 only behind the gate
   ask : (c : Lending true) {rest : List Row} → written (kindOf c) (number c) ≡ stepWritten (number c) → asks (kindOf c) ≡ true
       → rowsOf c ≡ gateRows (fitsThrough log c) (sound log) r rest → Says c
   unfolding inner entered _and_

@@ -34,12 +34,6 @@ unfoldable pub distinct : List ℕ → Bool
 distinct [] = true
 distinct (n ∷ ns) = not (among n ns) and distinct ns
 
--- the last row always holds
-abbrev pub ends : List Row → Bool
-ends [] = false
-ends (row ∷ []) = row .test
-ends (row ∷ next ∷ rows) = ends (next ∷ rows)
-
 -- how many of the numbers pass the test
 unfoldable pub count : (ℕ → Bool) → List ℕ → ℕ
 count test [] = 0
