@@ -69,20 +69,20 @@ module _ (r : Record) (log : List ℕ) where
   Says c = refused (number c) ≡ true → Noted log (kindOf c) (number c)
 
   -- a call that is no ask, of which no refusal is written
-  no-ask : (c : Lending true) → (refused (number c) ≡ true → written (kindOf c) (number c) ≡ false) → asks (kindOf c) ≡ false → Says c
+  other-noted : (c : Lending true) → (refused (number c) ≡ true → written (kindOf c) (number c) ≡ false) → asks (kindOf c) ≡ false → Says c
   unfolding entered
-  no-ask c w a h = let z : entered (kindOf c) (number c) ≡ false = no-left _ a in record { exactly = w h ∙ sym z; clean = λ e. never (sym e ∙ z) }
+  other-noted c w a h = let z : entered (kindOf c) (number c) ≡ false = no-left _ a in record { exactly = w h ∙ sym z; clean = λ e. never (sym e ∙ z) }
 
   -- a report, which answers neither 4 nor 5
-  report : (c : Lending true) → among 4 (numbersOf (callOf c)) ≡ false → among 5 (numbersOf (callOf c)) ≡ false → refused (number c) ≡ true → stepWritten (number c) ≡ false
+  report-unwritten : (c : Lending true) → among 4 (numbersOf (callOf c)) ≡ false → among 5 (numbersOf (callOf c)) ≡ false → refused (number c) ≡ true → stepWritten (number c) ≡ false
   unfolding inner
-  report c p q h = refused-report (number c) _ h (listed-answer _ _ r (callOf c)) p q
+  report-unwritten c p q h = refused-report (number c) _ h (listed-answer _ _ r (callOf c)) p q
 
   -- an ask, which answers 4 and 5 only behind the gate
-  ask : (c : Lending true) {rest : List Row} → written (kindOf c) (number c) ≡ stepWritten (number c) → asks (kindOf c) ≡ true
+  ask-noted : (c : Lending true) {rest : List Row} → written (kindOf c) (number c) ≡ stepWritten (number c) → asks (kindOf c) ≡ true
       → rowsOf c ≡ gateRows (fitsThrough log c) (sound log) r rest → Says c
   unfolding inner entered _and_
-  ask c w a e h =
+  ask-noted c w a e h =
       let g = sym (ap (λ (rs : List Row). given rs (number c)) e) ∙ sym (exact-refusals _ _ r (callOf c) (number c)) ∙ eq-eqb (number c) (number c) refl in
       let z : entered (kindOf c) (number c) ≡ eqb (number c) 4 or eqb (number c) 5 = simp a in
       record {
@@ -92,16 +92,16 @@ module _ (r : Record) (log : List ℕ) where
 
   pub noted : (c : Lending true) → Says c
   unfolding kindOf written callOf numbersOf among pick _and_ _or_ rows
-  noted (openAt v s a p) = no-ask (openAt v s a p) (λ h. refl) refl
-  noted (begin true c o t new old pairs) = no-ask (begin true c o t new old pairs) (refused-call _) refl
-  noted (begin false c o t new old pairs) = no-ask (begin false c o t new old pairs) (refused-call _) refl
-  noted askStructure = ask askStructure refl refl refl
-  noted askUpdate = ask askUpdate refl refl refl
-  noted askRollback = ask askRollback refl refl refl
-  noted (reportStructure c o ticket x new old) = no-ask (reportStructure c o ticket x new old) (report (reportStructure c o ticket x new old) refl refl) refl
-  noted (reportUpdate t ticket x payload) = no-ask (reportUpdate t ticket x payload) (report (reportUpdate t ticket x payload) refl refl) refl
-  noted (reportRollback t ticket x payload) = no-ask (reportRollback t ticket x payload) (report (reportRollback t ticket x payload) refl refl) refl
-  noted (commit a c) = no-ask (commit a c) (refused-call _) refl
-  noted (recover a x m) = no-ask (recover a x m) (refused-call _) refl
-  noted (recoverRetained a o x) = no-ask (recoverRetained a o x) (refused-call _) refl
-  noted (refresh a x m) = no-ask (refresh a x m) (refused-call _) refl
+  noted (openAt v s a p) = other-noted (openAt v s a p) (λ h. refl) refl
+  noted (begin true c o t new old pairs) = other-noted (begin true c o t new old pairs) (refused-call _) refl
+  noted (begin false c o t new old pairs) = other-noted (begin false c o t new old pairs) (refused-call _) refl
+  noted askStructure = ask-noted askStructure refl refl refl
+  noted askUpdate = ask-noted askUpdate refl refl refl
+  noted askRollback = ask-noted askRollback refl refl refl
+  noted (reportStructure c o ticket x new old) = other-noted (reportStructure c o ticket x new old) (report-unwritten (reportStructure c o ticket x new old) refl refl) refl
+  noted (reportUpdate t ticket x payload) = other-noted (reportUpdate t ticket x payload) (report-unwritten (reportUpdate t ticket x payload) refl refl) refl
+  noted (reportRollback t ticket x payload) = other-noted (reportRollback t ticket x payload) (report-unwritten (reportRollback t ticket x payload) refl refl) refl
+  noted (commit a c) = other-noted (commit a c) (refused-call _) refl
+  noted (recover a x m) = other-noted (recover a x m) (refused-call _) refl
+  noted (recoverRetained a o x) = other-noted (recoverRetained a o x) (refused-call _) refl
+  noted (refresh a x m) = other-noted (refresh a x m) (refused-call _) refl

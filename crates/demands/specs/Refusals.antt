@@ -113,7 +113,7 @@ rows sized sound r (calls (stamp domain)) = 7 when not (whole r) ∷ 1 when r .s
 -- "checking a stamp answers yes, no or 7"
 rows sized sound r (calls (check domain d v)) = 7 when not (whole r) ∷ 0 when otherwise ∷ []
 
--- the numbers that document 01 lists for each call, in its order
+-- the numbers that document 01 lists for each call, as they stand in its rows
 unfoldable pub numbersOf : AnyCall → List ℕ
 numbersOf (opens revision serial accepted) = 6 ∷ 8 ∷ 0 ∷ []
 numbersOf (calls (begin c o n)) = 6 ∷ 7 ∷ 1 ∷ 3 ∷ 8 ∷ 9 ∷ 0 ∷ []
