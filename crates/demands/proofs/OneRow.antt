@@ -19,7 +19,7 @@ both-false true p q = p
 both-false false p q = q
 
 -- a number that no row has is not given
-pub absent : (rows : List Row) (n : ℕ) → among n (numbers rows) ≡ false → given rows n ≡ false
+absent : (rows : List Row) (n : ℕ) → among n (numbers rows) ≡ false → given rows n ≡ false
 unfolding among given
 absent [] n h = refl
 absent (row ∷ rows) n h = let p = neither h in both-false (row .test) (p .0) (absent rows n (p .1))
