@@ -34,3 +34,12 @@ pub mod LoggedExhibit
 pub mod Ties
 pub mod NeverFull
 pub mod LogFull
+pub mod Rows
+pub mod OneRow
+pub mod Refusals
+pub mod ExactRefusals
+pub mod Transaction
+pub mod Written
+pub mod Logged
+pub mod Recorder
+pub mod Marks

@@ -6,3 +6,8 @@ pub mod Plans
 pub mod Promises
 pub mod Starting
 pub mod Logged
+pub mod Rows
+pub mod Refusals
+pub mod Lending
+pub mod Contracts
+pub mod Marks
