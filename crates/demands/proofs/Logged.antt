@@ -21,7 +21,8 @@ use Rattle.demands.specs.Calls.{stepWith}
 use Rattle.demands.specs.Refusals.{stepOf, returned}
 use Rattle.demands.specs.Lending.{Lending, callOf, lent, fits}
 use Rattle.demands.specs.Lending.Lending.{openAt, begin, askStructure, askUpdate, askRollback, reportStructure, reportUpdate, reportRollback, commit, recover, recoverRetained, refresh}
-use Rattle.demands.specs.Contracts.{recordedOf, kindOf, written, fitsThrough, inner, entered, logAfter}
+use Rattle.demands.specs.Logged.{kindOf, writtenAs}
+use Rattle.demands.specs.Contracts.{recordedOf, kind, fitsThrough, inner, entered, logAfter}
 use Rattle.demands.proofs.ExactRefusals.{refusal-returns}
 use Rattle.demands.proofs.Written.{noted}
 
@@ -50,8 +51,8 @@ module _ (t twelve : Told) (r : Record) (log after : List ℕ) (lent moved : Lis
 
 module _ (r : Record) (log : List ℕ) where
   pub record Ends (v : Leaves) (c : Lending true) : Type 0 where
-    pub number : v .told .number ≡ pick (written (kindOf c) (inner r log c .number) and full log) 12 (inner r log c .number)
-    pub refusal : refused (v .told .number) ≡ true → (v .told .state ≡ returned r (callOf c)) × (v .lent ≡ logAfter r log (kindOf c) (v .told .number) ∷ lent c)
+    pub number : v .told .number ≡ pick (writtenAs (kind c) (inner r log c .number) and full log) 12 (inner r log c .number)
+    pub refusal : refused (v .told .number) ≡ true → (v .told .state ≡ returned r (callOf c)) × (v .lent ≡ logAfter r log (kind c) (v .told .number) ∷ lent c)
 
   module _ (c : Lending true) where
     abbrev n : ℕ
@@ -62,30 +63,30 @@ module _ (r : Record) (log : List ℕ) where
     kept h = refusal-returns _ _ r (callOf c) h
 
     -- no entry
-    unwritten : (m : ℕ) → entered (kindOf c) m ≡ false → log ≡ logAfter r log (kindOf c) m
+    unwritten : (m : ℕ) → entered (kind c) m ≡ false → log ≡ logAfter r log (kind c) m
     unfolding logAfter
     unwritten m e = no _ e refl
 
-    noted-as : (back : returned r (callOf c) ≡ r) → refused n ≡ true → written (kindOf c) n ≡ true → full log ≡ false
-        → appended (kindOf c) n (inner r log c .state .serial) (inner r log c .state .revision) log ≡ logAfter r log (kindOf c) n
+    noted-as : (back : returned r (callOf c) ≡ r) → refused n ≡ true → writtenAs (kind c) n ≡ true → full log ≡ false
+        → appended (kind c) n (inner r log c .state .serial) (inner r log c .state .revision) log ≡ logAfter r log (kind c) n
     unfolding logAfter appended
     noted-as back h w f =
         let e = sym (noted r log c h .exactly) ∙ w in
         sym (no _ (ap not (noted r log c h .clean e)) (no _ f refl))
-        ∙ ap (λ (s : Record). event (kindOf c) n (s .serial) (s .revision) log) (kept h ∙ back)
+        ∙ ap (λ (s : Record). event (kind c) n (s .serial) (s .revision) log) (kept h ∙ back)
         ∙ yes _ e refl
 
-    through : (moved : List (List ℕ)) → returned r (callOf c) ≡ r → Ends (recorded (written (kindOf c)) (kindOf c) (inner r log c) r log (lent c) moved) c
+    through : (moved : List (List ℕ)) → returned r (callOf c) ≡ r → Ends (recorded (writtenAs (kind c)) (kind c) (inner r log c) r log (lent c) moved) c
     unfolding recorded entered _or_
     through moved back = record {
-      number = number-of (inner r log c) (refuse LogFull r) r log _ (lent c) moved (logAfter r log (kindOf c)) _ _;
+      number = number-of (inner r log c) (refuse LogFull r) r log _ (lent c) moved (logAfter r log (kind c)) _ _;
       refusal =
-          refusal-of (inner r log c) (refuse LogFull r) (returned r (callOf c)) log _ (lent c) moved (logAfter r log (kindOf c)) _ _ kept (sym back)
+          refusal-of (inner r log c) (refuse LogFull r) (returned r (callOf c)) log _ (lent c) moved (logAfter r log (kind c)) _ _ kept (sym back)
           (λ h w. unwritten n (sym (noted r log c h .exactly) ∙ w)) (unwritten 12 (no-right _ refl)) (noted-as back);
     }
 
   pub ends-as : (c : Lending true) → Ends (recordedOf r log c) c
-  unfolding recordedOf openRecorded beginRecorded beginKind askStructureRecorded askUpdateRecorded askRollbackRecorded reportStructureRecorded reportUpdateRecorded reportRollbackRecorded commitRecorded recoverRecorded recoverRetainedRecorded refreshRecorded withLog stepOf stepWith returned inner fitsThrough callOf lent fits kindOf written entered pick _and_ _or_
+  unfolding recordedOf openRecorded beginRecorded beginKind askStructureRecorded askUpdateRecorded askRollbackRecorded reportStructureRecorded reportUpdateRecorded reportRollbackRecorded commitRecorded recoverRecorded recoverRetainedRecorded refreshRecorded withLog stepOf stepWith returned inner fitsThrough callOf lent fits kindOf writtenAs entered pick _and_ _or_
   ends-as (openAt v s a p) =
       let c = openAt v s a p in
       record { number = refl; refusal = λ h. (kept c h, sym (yes _ h refl) ∙ ap (λ (l : List ℕ). l ∷ a ∷ []) (unwritten c _ refl)) }

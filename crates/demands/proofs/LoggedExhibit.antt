@@ -29,7 +29,7 @@ use Rattle.recording.specs.Recorded.{stepWritten, callWritten, recorded, noted}
 use Rattle.demands.specs.Calls.{Call, stepWith, step}
 use Rattle.demands.specs.Calls.Call.{begin, askStructure, askUpdate, reportUpdate, edit, commit, stamp}
 use Rattle.demands.specs.Chains.{Heard}
-use Rattle.demands.specs.Logged.{kindOf, written, loggedStep, logged, events}
+use Rattle.demands.specs.Logged.{kindOf, writtenAs, loggedStep, logged, events}
 use Rattle.demands.proofs.LoggedChains.{Same, same-chain}
 
 pub start : Record
@@ -50,7 +50,7 @@ pub computed : (events start chain ≡ entry 1 0 0 7 ∷ entry 3 4 0 7 ∷ entry
     × (logged start (roomFor 5) chain .log ≡ 5 ∷ 4 ∷ 5 ∷ 0 ∷ 1 ∷ 0 ∷ 0 ∷ 7 ∷ 3 ∷ 4 ∷ 0 ∷ 7 ∷ 5 ∷ 20 ∷ 1 ∷ 7 ∷ 6 ∷ 24 ∷ 1 ∷ 7 ∷ 9 ∷ 0 ∷ 1 ∷ 8 ∷ [])
     × (answers (logged start (roomFor 4) chain .heard)
     ≡ said 0 [] ∷ said 1 [] ∷ said 4 [] ∷ said 4 [] ∷ said 0 [] ∷ said 20 (1 ∷ 0 ∷ []) ∷ said 24 [] ∷ said 1 [] ∷ said 12 [] ∷ [])
-unfolding start chain roomFor events noted kindOf written stepWritten callWritten loggedStep logged step stepWith pick _and_ _or_ _implies_ hasSuccessor long isLive adopting lengthsFit countsFit stagedFits forwardFits backFits restoringFits liveFits whole complete gateOf gated opening firstPhase begun beginOwn editOwn askStructureOwn askUpdateOwn updateDone behind reportGate reported settled commitOwn stampStep logSized headSound sound full appended blank recorded
+unfolding start chain roomFor events noted kindOf writtenAs stepWritten callWritten loggedStep logged step stepWith pick _and_ _or_ _implies_ hasSuccessor long isLive adopting lengthsFit countsFit stagedFits forwardFits backFits restoringFits liveFits whole complete gateOf gated opening firstPhase begun beginOwn editOwn askStructureOwn askUpdateOwn updateDone behind reportGate reported settled commitOwn stampStep logSized headSound sound full appended blank recorded
 computed = (refl, refl, refl)
 
 opened : (logSized (length (roomFor 5)) ≡ true) × (sound (roomFor 5) ≡ true) × (count (roomFor 5) ≡ 0) × (room (roomFor 5) ≡ 5)

@@ -19,7 +19,7 @@ use Rattle.recording.specs.Recorded.{recorded, logOf, noted}
 use Rattle.recording.proofs.Laws.{stays-sound, same-length}
 use Rattle.recording.proofs.Noting.{noted-one, noted-none, same-told, noted-last}
 use Rattle.demands.specs.Calls.{Call, stepWith, step}
-use Rattle.demands.specs.Logged.{noKind, kindOf, written, loggedStep}
+use Rattle.demands.specs.Logged.{noKind, kindOf, written, loggedStep, writtenAs}
 
 -- the event of the plain call, if it has one
 abbrev pub eventOf : Record → Call → List Entry
@@ -32,7 +32,7 @@ pub record Kept (r : Record) (log : List ℕ) (c : Call) (v : Leaves) : Type 0 w
 
 -- "Opening, stamps and edits are not written": nor is any call without a kind
 unwritten : (c : Call) (n : ℕ) → eqb (kindOf c) noKind ≡ true → written c n ≡ false
-unfolding written
+unfolding writtenAs
 unwritten c n k = sym (yes _ k refl)
 
 module _ (r : Record) (log : List ℕ) (c : Call) where

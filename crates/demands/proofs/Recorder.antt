@@ -2,21 +2,22 @@
 -- else that answer; a refusal returns the record that was given and leaves all that was lent, but for the log entry of an ask answered 4
 -- or 5. Assumes nothing.
 use Prim.Native.Nat.{ℕ}
-use mathlib.Core.Path.{_≡_, refl, _∙_, ap}
+use mathlib.Core.Path.{_≡_, refl, sym, _∙_, ap}
 use mathlib.Core.Bool.{Bool, true, false}
 use mathlib.Core.List.{List, _∷_}
-use lib.Dec.{eqb, ltb, leb}
-use borrow.Author.Tests.{lt-leb}
+use lib.Dec.{eqb, ltb}
+use borrow.Author.Tests.{eq-eqb}
 use Rattle.choice.specs.Pick.{pick, _or_}
+use Rattle.choice.proofs.Picks.{yes}
 use Rattle.choice.proofs.Tests.{never, no-left, tests}
 use Rattle.record.specs.Answers.{refused}
 use Rattle.record.specs.declared.Record.{Record}
-use Rattle.recording.specs.Recorded.{callWritten}
 use Rattle.log.specs.Log.{full}
 use Rattle.demands.specs.Rows.{among, distinct, count}
 use Rattle.demands.specs.Refusals.{returned, numbersOf}
 use Rattle.demands.specs.Lending.{Lending, callOf, lent}
-use Rattle.demands.specs.Contracts.{recordedOf, kindOf, written, inner, givenThrough, numbersThrough, logAfter}
+use Rattle.demands.specs.Logged.{writtenAs}
+use Rattle.demands.specs.Contracts.{recordedOf, kind, inner, givenThrough, numbersThrough, logAfter}
 use Rattle.demands.proofs.OneRow.{one-passes, apart}
 use Rattle.demands.proofs.ExactRefusals.{all-listed, exact-refusals, listed-answer}
 use Rattle.demands.proofs.Logged.{ends-as}
@@ -32,9 +33,9 @@ either-way true e = refl
 either-way false e = e
 
 -- a call of no kind is not written
-no-kind : (kind n : ℕ) → ltb 0 kind ≡ false → written kind n ≡ false
-unfolding written pick
-no-kind kind n h = simp (no-left (leb kind 8) (lt-leb 3 kind (omega tests))) (no-left (callWritten n) h)
+no-kind : (k n : ℕ) → ltb 0 k ≡ false → writtenAs k n ≡ false
+unfolding writtenAs
+no-kind k n h = sym (yes _ (eq-eqb k 0 (omega tests)) refl)
 
 -- 12 is given only where it is listed
 twelve-listed : (b k : Bool) (n : ℕ) (ns : List ℕ) → (k ≡ false → b ≡ false) → among n ns ≡ true → among (pick b 12 n) (pick k (12 ∷ ns) ns) ≡ true
@@ -61,7 +62,7 @@ module _ (r : Record) (log : List ℕ) (c : Lending true) where
   unfolding inner numbersThrough
   recorder-listed =
       ap (λ (m : ℕ). among m (numbersThrough c)) (ends-as r log c .number)
-      ∙ twelve-listed _ _ n (numbersOf (callOf c)) (λ e. no-left (full log) (no-kind (kindOf c) n e)) (listed-answer _ _ r (callOf c))
+      ∙ twelve-listed _ _ n (numbersOf (callOf c)) (λ e. no-left (full log) (no-kind (kind c) n e)) (listed-answer _ _ r (callOf c))
 
   -- exactly one answer is given
   pub recorder-one : count (givenThrough r log c) (numbersThrough c) ≡ 1
@@ -71,5 +72,5 @@ module _ (r : Record) (log : List ℕ) (c : Lending true) where
 
   pub recorder-refusal : refused (recordedOf r log c .told .number) ≡ true
       → (recordedOf r log c .told .state ≡ returned r (callOf c))
-      × (recordedOf r log c .lent ≡ logAfter r log (kindOf c) (recordedOf r log c .told .number) ∷ lent c)
+      × (recordedOf r log c .lent ≡ logAfter r log (kind c) (recordedOf r log c .told .number) ∷ lent c)
   recorder-refusal = ends-as r log c .refusal

@@ -21,7 +21,7 @@ use Rattle.logged_reports.specs.Reports.{reportStructureRecorded, reportUpdateR
 use Rattle.logged_ends.specs.Ends.{commitRecorded, recoverRecorded, recoverRetainedRecorded, refreshRecorded}
 use Rattle.demands.specs.Calls.{Call, stepWith, step}
 use Rattle.demands.specs.Calls.Call.{begin, beginStructural, askStructure, askUpdate, askRollback, reportStructure, reportUpdate, reportRollback, edit, commit, recover, recoverRetained, refresh, stamp, check}
-use Rattle.demands.specs.Logged.{noKind, kindOf, written, loggedStep}
+use Rattle.demands.specs.Logged.{noKind, kindOf, written, loggedStep, writtenAs}
 
 module _ (r : Record) (log : List ℕ) where
   -- one law: a call that has a kind, through the recorder, with what fits
@@ -37,57 +37,57 @@ module _ (r : Record) (log : List ℕ) where
   -- kinds 1 and 2: c candidate, o recovery, t the table; an action is two words of the pairs
   module _ (c o t new old pairs : List ℕ) (h : sized c and sized o and tableSized t and paired pairs ≡ true) where
     pub begin-tie : Agrees (beginRecorded false r log c o t new old pairs) (loggedStep r log (begin (length new) (length old) (length pairs / 2)))
-    unfolding beginRecorded beginKind kindOf written stepWith pick _and_
+    unfolding beginRecorded beginKind kindOf writtenAs stepWith pick _and_
     begin-tie = tie (begin (length new) (length old) (length pairs / 2)) _ _ _ refl h
 
     pub begin-structural-tie : Agrees (beginRecorded true r log c o t new old pairs) (loggedStep r log (beginStructural (length new) (length old) (length pairs / 2)))
-    unfolding beginRecorded beginKind kindOf written stepWith pick _and_
+    unfolding beginRecorded beginKind kindOf writtenAs stepWith pick _and_
     begin-structural-tie = tie (beginStructural (length new) (length old) (length pairs / 2)) _ _ _ refl h
 
   -- kinds 3, 5 and 7: the asks, which are lent the log alone
   pub ask-structure-tie : Agrees (askStructureRecorded r log) (loggedStep r log askStructure)
-  unfolding askStructureRecorded kindOf written stepWith pick _and_
+  unfolding askStructureRecorded kindOf writtenAs stepWith pick _and_
   ask-structure-tie = tie askStructure _ _ true refl refl
 
   pub ask-update-tie : Agrees (askUpdateRecorded r log) (loggedStep r log askUpdate)
-  unfolding askUpdateRecorded kindOf written stepWith pick _and_
+  unfolding askUpdateRecorded kindOf writtenAs stepWith pick _and_
   ask-update-tie = tie askUpdate _ _ true refl refl
 
   pub ask-rollback-tie : Agrees (askRollbackRecorded r log) (loggedStep r log askRollback)
-  unfolding askRollbackRecorded kindOf written stepWith pick _and_
+  unfolding askRollbackRecorded kindOf writtenAs stepWith pick _and_
   ask-rollback-tie = tie askRollback _ _ true refl refl
 
   -- kinds 4, 6 and 8
   pub report-structure-tie : (c o new old : List ℕ) (ticket : ℕ) (x : Outcome) → sized c and sized o ≡ true
       → Agrees (reportStructureRecorded r log c o ticket x new old) (loggedStep r log (reportStructure ticket x (length new) (length old)))
-  unfolding reportStructureRecorded kindOf written stepWith pick _and_
+  unfolding reportStructureRecorded kindOf writtenAs stepWith pick _and_
   report-structure-tie c o new old ticket x h = tie (reportStructure ticket x (length new) (length old)) _ _ _ refl h
 
   pub report-update-tie : (t : List ℕ) (ticket : ℕ) (x : Outcome) (payload : ℕ) → tableSized t ≡ true
       → Agrees (reportUpdateRecorded r log t ticket x payload) (loggedStep r log (reportUpdate ticket x))
-  unfolding reportUpdateRecorded kindOf written stepWith pick _and_
+  unfolding reportUpdateRecorded kindOf writtenAs stepWith pick _and_
   report-update-tie t ticket x payload h = tie (reportUpdate ticket x) _ _ _ refl h
 
   pub report-rollback-tie : (t : List ℕ) (ticket : ℕ) (x : Outcome) (payload : ℕ) → tableSized t ≡ true
       → Agrees (reportRollbackRecorded r log t ticket x payload) (loggedStep r log (reportRollback ticket x))
-  unfolding reportRollbackRecorded kindOf written stepWith pick _and_
+  unfolding reportRollbackRecorded kindOf writtenAs stepWith pick _and_
   report-rollback-tie t ticket x payload h = tie (reportRollback ticket x) _ _ _ refl h
 
   -- kinds 9 to 12: a accepted, c candidate, o recovery, x exchange
   pub commit-tie : (a c : List ℕ) → sized a and sized c ≡ true → Agrees (commitRecorded r log a c) (loggedStep r log commit)
-  unfolding commitRecorded kindOf written stepWith pick _and_
+  unfolding commitRecorded kindOf writtenAs stepWith pick _and_
   commit-tie a c h = tie commit _ _ _ refl h
 
   pub recover-tie : (a x : List ℕ) (n : ℕ) → sized a and sized x ≡ true → Agrees (recoverRecorded r log a x n) (loggedStep r log (recover n))
-  unfolding recoverRecorded kindOf written stepWith pick _and_
+  unfolding recoverRecorded kindOf writtenAs stepWith pick _and_
   recover-tie a x n h = tie (recover n) _ _ _ refl h
 
   pub recover-retained-tie : (a o x : List ℕ) → sized a and sized o and sized x ≡ true → Agrees (recoverRetainedRecorded r log a o x) (loggedStep r log recoverRetained)
-  unfolding recoverRetainedRecorded kindOf written stepWith pick _and_
+  unfolding recoverRetainedRecorded kindOf writtenAs stepWith pick _and_
   recover-retained-tie a o x h = tie recoverRetained _ _ _ refl h
 
   pub refresh-tie : (a x : List ℕ) (n : ℕ) → sized a and sized x ≡ true → Agrees (refreshRecorded r log a x n) (loggedStep r log (refresh n))
-  unfolding refreshRecorded kindOf written stepWith pick _and_
+  unfolding refreshRecorded kindOf writtenAs stepWith pick _and_
   refresh-tie a x n h = tie (refresh n) _ _ _ refl h
 
   -- "stamps and edits are not written": these are the plain calls, and are lent no log

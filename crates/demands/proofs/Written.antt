@@ -15,7 +15,8 @@ use Rattle.demands.specs.Rows.{Row, _when_, given, among}
 use Rattle.demands.specs.Refusals.{gateRows, rows, numbersOf}
 use Rattle.demands.specs.Lending.{Lending, callOf}
 use Rattle.demands.specs.Lending.Lending.{openAt, begin, askStructure, askUpdate, askRollback, reportStructure, reportUpdate, reportRollback, commit, recover, recoverRetained, refresh}
-use Rattle.demands.specs.Contracts.{kindOf, asks, written, fitsThrough, inner, entered}
+use Rattle.demands.specs.Logged.{kindOf, writtenAs}
+use Rattle.demands.specs.Contracts.{kind, asks, fitsThrough, inner, entered}
 use Rattle.demands.proofs.ExactRefusals.{exact-refusals, listed-answer}
 
 refused-call : (n : ℕ) → refused n ≡ true → callWritten n ≡ false
@@ -49,9 +50,9 @@ behind-gate false true rest n h p q = never (sym h ∙ q)
 behind-gate false false rest n h p q = refl
 
 -- a refusal of number n is written exactly if it is an ask's 4 or 5, and then the head is sound
-pub record Noted (log : List ℕ) (kind n : ℕ) : Type 0 where
-  pub exactly : written kind n ≡ entered kind n
-  pub clean : entered kind n ≡ true → sound log ≡ true
+pub record Noted (log : List ℕ) (k n : ℕ) : Type 0 where
+  pub exactly : writtenAs k n ≡ entered k n
+  pub clean : entered k n ≡ true → sound log ≡ true
 
 -- 4 and 5 are neither 6 nor 7
 neither-gate : (n : ℕ) → eqb n 4 or eqb n 5 ≡ true → (eqb 6 n ≡ false) × (eqb 7 n ≡ false)
@@ -66,12 +67,12 @@ module _ (r : Record) (log : List ℕ) where
   rowsOf c = rows (fitsThrough log c) (sound log) r (callOf c)
 
   abbrev Says : Lending true → Type 0
-  Says c = refused (number c) ≡ true → Noted log (kindOf c) (number c)
+  Says c = refused (number c) ≡ true → Noted log (kind c) (number c)
 
   -- a call that is no ask, of which no refusal is written
-  other-noted : (c : Lending true) → (refused (number c) ≡ true → written (kindOf c) (number c) ≡ false) → asks (kindOf c) ≡ false → Says c
+  other-noted : (c : Lending true) → (refused (number c) ≡ true → writtenAs (kind c) (number c) ≡ false) → asks (kind c) ≡ false → Says c
   unfolding entered
-  other-noted c w a h = let z : entered (kindOf c) (number c) ≡ false = no-left _ a in record { exactly = w h ∙ sym z; clean = λ e. never (sym e ∙ z) }
+  other-noted c w a h = let z : entered (kind c) (number c) ≡ false = no-left _ a in record { exactly = w h ∙ sym z; clean = λ e. never (sym e ∙ z) }
 
   -- a report, which answers neither 4 nor 5
   report-unwritten : (c : Lending true) → among 4 (numbersOf (callOf c)) ≡ false → among 5 (numbersOf (callOf c)) ≡ false → refused (number c) ≡ true → stepWritten (number c) ≡ false
@@ -79,19 +80,19 @@ module _ (r : Record) (log : List ℕ) where
   report-unwritten c p q h = refused-report (number c) _ h (listed-answer _ _ r (callOf c)) p q
 
   -- an ask, which answers 4 and 5 only behind the gate
-  ask-noted : (c : Lending true) {rest : List Row} → written (kindOf c) (number c) ≡ stepWritten (number c) → asks (kindOf c) ≡ true
+  ask-noted : (c : Lending true) {rest : List Row} → writtenAs (kind c) (number c) ≡ stepWritten (number c) → asks (kind c) ≡ true
       → rowsOf c ≡ gateRows (fitsThrough log c) (sound log) r rest → Says c
   unfolding inner entered _and_
   ask-noted c w a e h =
       let g = sym (ap (λ (rs : List Row). given rs (number c)) e) ∙ sym (exact-refusals _ _ r (callOf c) (number c)) ∙ eq-eqb (number c) (number c) refl in
-      let z : entered (kindOf c) (number c) ≡ eqb (number c) 4 or eqb (number c) 5 = simp a in
+      let z : entered (kind c) (number c) ≡ eqb (number c) 4 or eqb (number c) 5 = simp a in
       record {
         exactly = w ∙ refused-step (number c) h ∙ sym z;
         clean = λ f. let k = neither-gate (number c) (sym z ∙ f) in both (not-false _ (behind-gate _ _ _ (number c) g (k .0) (k .1))) .0;
       }
 
   pub noted : (c : Lending true) → Says c
-  unfolding kindOf written callOf numbersOf among pick _and_ _or_ rows
+  unfolding kindOf writtenAs callOf numbersOf among pick _and_ _or_ rows
   noted (openAt v s a p) = other-noted (openAt v s a p) (λ h. refl) refl
   noted (begin true c o t new old pairs) = other-noted (begin true c o t new old pairs) (refused-call _) refl
   noted (begin false c o t new old pairs) = other-noted (begin false c o t new old pairs) (refused-call _) refl

@@ -3,7 +3,7 @@
 use Prim.Native.Nat.{ℕ}
 use mathlib.Core.Bool.{Bool, true, false}
 use mathlib.Core.List.{List, [], _∷_}
-use lib.Dec.{eqb, leb, ltb}
+use lib.Dec.{eqb, ltb}
 use lib.ListN.{length}
 use Rattle.choice.specs.Pick.{pick, _and_, _or_}
 use Rattle.record.specs.Answers.{Told, told}
@@ -16,13 +16,14 @@ use Rattle.begins.specs.Begins.{beginLeaves, editLeaves}
 use Rattle.reports.specs.Reports.{reportStructureLeaves, reportUpdateLeaves, reportRollbackLeaves}
 use Rattle.ends.specs.Ends.{commitLeaves, recoverLeaves, recoverRetainedLeaves, refreshLeaves}
 use Rattle.log.specs.Log.{logSized, sound, full, event}
-use Rattle.recording.specs.Recorded.{stepWritten, callWritten}
 use Rattle.recording.specs.Asks.{askStructureRecorded, askUpdateRecorded, askRollbackRecorded}
 use Rattle.logged_begins.specs.Begins.{openRecorded, beginRecorded}
 use Rattle.logged_reports.specs.Reports.{reportStructureRecorded, reportUpdateRecorded, reportRollbackRecorded}
 use Rattle.logged_ends.specs.Ends.{commitRecorded, recoverRecorded, recoverRetainedRecorded, refreshRecorded}
 use Rattle.demands.specs.Rows.{given}
-use Rattle.demands.specs.Refusals.{stepOf, rows, numbersOf}
+use Rattle.demands.specs.Logged.{noKind, kindOf, writtenAs}
+use Rattle.demands.specs.Refusals.{AnyCall, stepOf, rows, numbersOf}
+use Rattle.demands.specs.Refusals.AnyCall.{opens, calls}
 use Rattle.demands.specs.Lending.{Lending, callOf, fits}
 use Rattle.demands.specs.Lending.Lending.{openAt, begin, askStructure, askUpdate, askRollback, reportStructure, reportUpdate, reportRollback, edit, commit, recover, recoverRetained, refresh, stamp, check}
 
@@ -59,29 +60,16 @@ recordedOf r log (recover a x n) = recoverRecorded r log a x n
 recordedOf r log (recoverRetained a o x) = recoverRetainedRecorded r log a o x
 recordedOf r log (refresh a x n) = refreshRecorded r log a x n
 
--- "Kinds: 1 begin, 2 begin structural, 3, 5, 7 asks and 4, 6, 8 reports of structure, update, rollback, 9 commit, 10 recover,
--- 11 recover retained, 12 refresh"; "Opening .. [is] not written", and has none, 0
-unfoldable pub kindOf : Lending true → ℕ
-kindOf (openAt v s a p) = 0
-kindOf (begin true c o t new old pairs) = 2
-kindOf (begin false c o t new old pairs) = 1
-kindOf askStructure = 3
-kindOf askUpdate = 5
-kindOf askRollback = 7
-kindOf (reportStructure c o ticket x new old) = 4
-kindOf (reportUpdate t ticket x payload) = 6
-kindOf (reportRollback t ticket x payload) = 8
-kindOf (commit a c) = 9
-kindOf (recover a x n) = 10
-kindOf (recoverRetained a o x) = 11
-kindOf (refresh a x n) = 12
+-- the kind of a call with all that it is lent; an opening has none
+abbrev pub kindOfAny : AnyCall → ℕ
+kindOfAny (opens revision serial accepted) = noKind
+kindOfAny (calls c) = kindOf c
+
+abbrev pub kind : Lending true → ℕ
+kind c = kindOfAny (callOf c)
 
 abbrev pub asks : ℕ → Bool
-asks kind = eqb kind 3 or eqb kind 5 or eqb kind 7
-
--- "Asks and reports answered 4, 5 or 20 to 24 are written; in other calls an event is written only if the inner answer is 0."
-unfoldable pub written : ℕ → ℕ → Bool
-written kind n = pick (leb 3 kind and leb kind 8) (stepWritten n) (ltb 0 kind and callWritten n)
+asks k = eqb k 3 or eqb k 5 or eqb k 7
 
 -- what a call is lent through the log: "an area, table, pair list or log of a wrong size" is none of it
 unfoldable pub fitsThrough : List ℕ → Lending true → Bool
@@ -94,16 +82,16 @@ inner r log c = stepOf (fitsThrough log c) (sound log) r (callOf c)
 -- "12 last": LogFull, "no room for an event to be written", and else the inner answer by its row
 unfoldable pub givenThrough : Record → List ℕ → Lending true → ℕ → Bool
 givenThrough r log c n =
-    pick (written (kindOf c) (inner r log c .number) and full log) (eqb 12 n) (given (rows (fitsThrough log c) (sound log) r (callOf c)) n)
+    pick (writtenAs (kind c) (inner r log c .number) and full log) (eqb 12 n) (given (rows (fitsThrough log c) (sound log) r (callOf c)) n)
 
 -- 12 besides, where the call has a kind
 unfoldable pub numbersThrough : Lending true → List ℕ
-numbersThrough c = pick (ltb 0 (kindOf c)) (12 ∷ numbersOf (callOf c)) (numbersOf (callOf c))
+numbersThrough c = pick (ltb 0 (kind c)) (12 ∷ numbersOf (callOf c)) (numbersOf (callOf c))
 
 -- "the log entry of an ask answered 4 or 5"
 unfoldable pub entered : ℕ → ℕ → Bool
-entered kind n = asks kind and (eqb n 4 or eqb n 5)
+entered k n = asks k and (eqb n 4 or eqb n 5)
 
 -- the log after a refusal of number n: it stays but for that entry, which is "kind, answer, serial after, revision after"
 unfoldable pub logAfter : Record → List ℕ → ℕ → ℕ → List ℕ
-logAfter r log kind n = pick (entered kind n) (event kind n (r .serial) (r .revision) log) log
+logAfter r log k n = pick (entered k n) (event k n (r .serial) (r .revision) log) log
