@@ -17,7 +17,8 @@ use Rattle.recording.proofs.Noting.{full-changes-nothing}
 use Rattle.demands.specs.Calls.{Call, stepWith, step}
 use Rattle.demands.specs.Chains.{hears}
 use Rattle.demands.specs.Logged.{kindOf, written, loggedStep, logged}
-use Rattle.demands.proofs.NeverFull.{Other, picked, never-full}
+use Rattle.demands.proofs.NeverFull.{Other, never-full}
+use Rattle.demands.proofs.LoggedSteps.{by-kind}
 
 exactly : (w f : Bool) (t u : Told) (a b c : List (List ℕ)) → Other t → u .number ≡ 12
     → (pick (not w) (leaves t a) (pick f (leaves u b) (leaves t c)) .told .number ≡ 12) ↔ (w and f ≡ true)
@@ -42,10 +43,10 @@ module _ (sized sound : Bool) (r : Record) (log : List ℕ) (c : Call) (lent mov
 
 module _ (r : Record) (log : List ℕ) (c : Call) (e : loggedStep r log c .told .number ≡ 12) where
   refuses : loggedStep r log c ≡ leaves (refuse LogFull r) (log ∷ [])
-  unfolding loggedStep step
+  unfolding step
   refuses =
-      picked (λ (v : Leaves). v .told .number ≡ 12 → v ≡ leaves (refuse LogFull r) (log ∷ [])) _
-      (λ z. absurd (eqb-false _ _ (never-full true true r c) z))
+      by-kind r log c (λ (v : Leaves). v .told .number ≡ 12 → v ≡ leaves (refuse LogFull r) (log ∷ []))
+      (λ k z. absurd (eqb-false _ _ (never-full true true r c) z))
       (lent-stays _ _ r log c [] []) e
 
   pub log-full-changes-nothing : (loggedStep r log c .told .state ≡ r) × (logOf (loggedStep r log c) ≡ log)

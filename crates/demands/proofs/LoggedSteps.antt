@@ -40,7 +40,7 @@ module _ (r : Record) (log : List ℕ) (c : Call) where
   through t = recorded (written c) (kindOf c) t r log [] []
 
   -- without a kind, the plain call; else through the recorder
-  by-kind : (P : Leaves → Type 0) → (eqb (kindOf c) noKind ≡ true → P (leaves (step r c) (log ∷ [])))
+  pub by-kind : (P : Leaves → Type 0) → (eqb (kindOf c) noKind ≡ true → P (leaves (step r c) (log ∷ [])))
       → P (through (stepWith (logSized (length log)) (sound log) r c)) → P (loggedStep r log c)
   unfolding loggedStep
   by-kind P p q = test (eqb (kindOf c) noKind) (λ k. subst P (yes _ k refl) (p k)) (λ k. subst P (no _ k refl) q)
@@ -63,7 +63,9 @@ module _ (r : Record) (log : List ℕ) (c : Call) where
         by-kind (Kept r log c)
         (λ k. record {
           told = refl;
-          noting = sym (append-nil (entries log)) ∙ sym (ap (λ (es : List Entry). entries log ++ es) (noted-none (written c) (kindOf c) (step r c) (unwritten c _ k)));
+          noting =
+              sym (append-nil (entries log))
+              ∙ sym (ap (λ (es : List Entry). entries log ++ es) (noted-none (written c) (kindOf c) (step r c) (unwritten c _ k)));
         })
         (subst (λ (t : Told). Kept r log c (through t)) (sym plain) (record {
           told = same-told (written c) (kindOf c) (step r c) r log [] [] free;

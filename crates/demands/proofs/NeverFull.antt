@@ -24,7 +24,7 @@ abbrev pub Other : Told → Type 0
 Other t = eqb (t .number) 12 ≡ false
 
 -- whichever case is picked
-pub picked : {A : Type 0} (P : A → Type 0) (b : Bool) {x y : A} → P x → P y → P (pick b x y)
+picked : {A : Type 0} (P : A → Type 0) (b : Bool) {x y : A} → P x → P y → P (pick b x y)
 unfolding pick
 picked P true p q = p
 picked P false p q = q
