@@ -68,3 +68,7 @@ module _ {A : Type 0} {v : View A} {x : A} (rows : List Row) {ns : List ℕ} (l 
   -- and exactly one of the rows is given
   pub one-given : count (given rows) ns ≡ 1
   one-given = one-passes (v .number x) (given rows) ns (f .exact) (apart ns (l .1)) one-listed
+
+-- a call that does not answer k answers another number
+pub unlisted : (n k : ℕ) (ns : List ℕ) → among n ns ≡ true → among k ns ≡ false → eqb n k ≡ false
+unlisted n k ns h e = ne-eqb n k (λ p. never (sym h ∙ ap (λ (m : ℕ). among m ns) p ∙ e))

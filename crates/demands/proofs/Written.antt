@@ -17,6 +17,7 @@ use Rattle.demands.specs.Lending.{Lending, callOf}
 use Rattle.demands.specs.Lending.Lending.{openAt, begin, askStructure, askUpdate, askRollback, reportStructure, reportUpdate, reportRollback, commit, recover, recoverRetained, refresh}
 use Rattle.demands.specs.Logged.{kindOf, writtenAs}
 use Rattle.demands.specs.Contracts.{kind, asks, fitsThrough, inner, entered}
+use Rattle.demands.proofs.OneRow.{unlisted}
 use Rattle.demands.proofs.ExactRefusals.{exact-refusals, listed-answer}
 
 refused-call : (n : ℕ) → refused n ≡ true → callWritten n ≡ false
@@ -32,10 +33,6 @@ or-false false = refl
 refused-step : (n : ℕ) → refused n ≡ true → stepWritten n ≡ eqb n 4 or eqb n 5
 unfolding stepWritten refused
 refused-step n h = let p = both h in ap (λ (b : Bool). eqb n 4 or eqb n 5 or b) (no-left (leb n 24) (lt-leb 20 n (omega tests))) ∙ or-false _
-
--- a call that does not answer k answers another number
-unlisted : (n k : ℕ) (ns : List ℕ) → among n ns ≡ true → among k ns ≡ false → eqb n k ≡ false
-unlisted n k ns h e = ne-eqb n k (λ p. never (sym h ∙ ap (λ (m : ℕ). among m ns) p ∙ e))
 
 -- nor is what it is refused written, where it answers neither 4 nor 5
 refused-report : (n : ℕ) (ns : List ℕ) → refused n ≡ true → among n ns ≡ true → among 4 ns ≡ false → among 5 ns ≡ false → stepWritten n ≡ false
