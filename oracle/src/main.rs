@@ -4,6 +4,7 @@
 //! Written from document 01 and the page on the driver's script alone.
 
 mod boundary;
+mod command;
 mod dice;
 mod driver;
 mod log;
@@ -14,6 +15,7 @@ mod status;
 mod table;
 #[cfg(test)]
 mod tests;
+mod text;
 
 use std::io::{self, BufWriter, Write};
 use std::process::ExitCode;
@@ -59,10 +61,8 @@ fn obey(words: &[String], output: &mut dyn Write) -> io::Result<bool> {
 }
 
 fn main() -> ExitCode {
-    let words: Vec<String> = std::env::args_os()
-        .skip(1)
-        .map(|word| word.to_string_lossy().into_owned())
-        .collect();
+    let words: Vec<String> =
+        std::env::args_os().skip(1).map(|word| word.to_string_lossy().into_owned()).collect();
     let mut output = BufWriter::with_capacity(1 << 16, io::stdout());
     match obey(&words, &mut output) {
         Ok(true) => ExitCode::SUCCESS,
