@@ -45,6 +45,15 @@ impl Dice {
         }
     }
 
+    /// Another number: one more, one less, or with another bit.
+    pub fn beside(&mut self, value: u64) -> u64 {
+        match self.below(3) {
+            0 => value.wrapping_add(1),
+            1 => value.wrapping_sub(1),
+            _ => value ^ (1 << self.below(64)),
+        }
+    }
+
     pub fn length(&mut self) -> u64 {
         match self.below(20) {
             0 | 1 => 4096,

@@ -10,18 +10,16 @@ mod logs;
 mod odd;
 mod statuses;
 
-use crate::command::{self, Command};
 use crate::dice::Dice;
-use crate::driver::{Driver, Said};
-use crate::model::Answer;
+use crate::script::{Made, Player, Reply};
 use std::io::{self, Write};
 
-/// One answered call, for the table.
-pub type Seen<'a> = &'a mut dyn FnMut(&'static str, &Answer);
+/// What is told of each answered call.
+pub type Seen<'a> = &'a mut dyn FnMut(&Made);
 
 pub struct Maker<'a> {
     dice: Dice,
-    driver: Driver,
+    player: Player,
     output: &'a mut dyn Write,
     seen: Seen<'a>,
     calls: u64,
@@ -30,7 +28,7 @@ pub struct Maker<'a> {
 /// Prints a script of about `calls` calls and tells `seen` of each answer.
 pub fn make(seed: u64, calls: u64, output: &mut dyn Write, seen: Seen) -> io::Result<()> {
     let dice = Dice::new(seed);
-    let mut maker = Maker { dice, driver: Driver::new(), output, seen, calls: 0 };
+    let mut maker = Maker { dice, player: Player::new(), output, seen, calls: 0 };
     maker.say(&format!("# seed {}, about {} calls", seed, calls))?;
     maker.run(3)?;
     while maker.calls < calls {
@@ -41,20 +39,15 @@ pub fn make(seed: u64, calls: u64, output: &mut dyn Write, seen: Seen) -> io::Re
 }
 
 impl Maker<'_> {
-    /// Writes a line and plays it on the maker's own model.
+    /// Writes a line and plays it on the maker's own model. One call in
+    /// twenty is looked at afterwards.
     fn say(&mut self, line: &str) -> io::Result<()> {
         writeln!(self.output, "{}", line)?;
-        if line.is_empty() || line.starts_with('#') {
-            return Ok(());
-        }
-        if let Some(command) = command::command(line.as_bytes()) {
-            let name = match &command {
-                Command::Make(call) => call.name(),
-                _ => "",
-            };
-            if let Said::Answered(answer) = self.driver.obey(command) {
-                self.calls += 1;
-                (self.seen)(name, &answer);
+        if let Reply::Answered(made) = self.player.hear(line.as_bytes()) {
+            self.calls += 1;
+            (self.seen)(&made);
+            if self.dice.chance(5) {
+                self.say("show")?;
             }
         }
         Ok(())
@@ -76,24 +69,39 @@ impl Maker<'_> {
             18 => self.nearly_worn()?,
             _ => self.odd_lines()?,
         }
-        if self.dice.chance(10) {
-            self.say("show")?;
-        }
         Ok(())
     }
 
     fn right_sizes(&mut self) -> io::Result<()> {
         let right = [("a", 4096), ("c", 4096), ("r", 4096), ("x", 4096), ("t", 128)];
         for (i, (place, size)) in right.iter().enumerate() {
-            if self.driver.lent[i] != *size {
+            if self.player.driver.lent[i] != *size {
                 self.say(&format!("lend {} {}", place, size))?;
             }
         }
-        if self.driver.lent[6] != self.driver.lent[7] && self.dice.chance(50) {
+        if self.player.driver.lent[6] != self.player.driver.lent[7] && self.dice.chance(50) {
             self.say("lend g 64")?;
             self.say("lend s 64")?;
         }
         Ok(())
+    }
+
+    fn filling(&mut self) -> String {
+        format!("fill {}", self.dice.payload())
+    }
+
+    /// A byte or word anywhere in an area or the table, often at the edge of
+    /// what is lent, so that all of it is seen to move or to stay.
+    fn stirring(&mut self) -> String {
+        let place = self.dice.pick(&["a", "c", "r", "x", "t"]);
+        let (edge, held) = if place == "t" { (128, 2200) } else { (4096, 5000) };
+        let index = match self.dice.below(4) {
+            0 => edge - 1,
+            1 => edge,
+            2 => self.dice.below(edge),
+            _ => self.dice.below(held),
+        };
+        format!("put {} {} {}", place, index, self.dice.below(256))
     }
 
     /// Plays `count` calls, most of them sensible.
@@ -103,9 +111,9 @@ impl Maker<'_> {
                 let line = self.odd_line();
                 self.say(&line)?;
             }
-            if self.dice.chance(4) {
-                let payload = self.dice.payload();
-                self.say(&format!("fill {}", payload))?;
+            if self.dice.chance(8) {
+                let line = if self.dice.chance(50) { self.filling() } else { self.stirring() };
+                self.say(&line)?;
             }
             let line = if self.dice.chance(75) { self.sensible() } else { self.any_call() };
             self.say(&line)?;

@@ -3,10 +3,79 @@
 //! Written from the page on the driver's script alone. Decision: a comment is
 //! a comment however long it is.
 
-use crate::command::{self, LINE_MOST};
+use crate::command::{self, Command, LINE_MOST};
 use crate::driver::{Driver, Said};
+use crate::model::Answer;
 use crate::text::answer_text;
 use std::io::{self, BufRead, Write};
+
+/// A call that was made: its name, the phase of the record before it where
+/// that was whole, and its answer.
+pub struct Made {
+    pub name: &'static str,
+    pub phase: Option<u64>,
+    pub answer: Answer,
+}
+
+impl Made {
+    pub fn text(&self) -> String {
+        answer_text(&self.answer)
+    }
+}
+
+/// What a line of a script led to.
+pub enum Reply {
+    Nothing,
+    Bad(u64),
+    Answered(Made),
+    Shown(Vec<String>),
+}
+
+impl Reply {
+    /// The lines that are written.
+    pub fn text(self) -> Vec<String> {
+        match self {
+            Reply::Nothing => vec![],
+            Reply::Bad(number) => vec![format!("? {}", number)],
+            Reply::Answered(made) => vec![made.text()],
+            Reply::Shown(lines) => lines,
+        }
+    }
+}
+
+/// Plays a script, a line at a time.
+pub struct Player {
+    pub driver: Driver,
+    lines: u64,
+}
+
+impl Player {
+    pub fn new() -> Player {
+        Player { driver: Driver::new(), lines: 0 }
+    }
+
+    pub fn hear(&mut self, line: &[u8]) -> Reply {
+        self.lines += 1;
+        if line.is_empty() || line[0] == b'#' {
+            return Reply::Nothing;
+        }
+        let command = match command::command(line) {
+            None => return Reply::Bad(self.lines),
+            Some(command) => command,
+        };
+        let name = match &command {
+            Command::Make(call) => call.name(),
+            _ => "",
+        };
+        let record = &self.driver.record;
+        let phase = if record.whole() { Some(record.phase) } else { None };
+        match self.driver.obey(command) {
+            Said::Nothing => Reply::Nothing,
+            Said::Answered(answer) => Reply::Answered(Made { name, phase, answer }),
+            Said::Shown(lines) => Reply::Shown(lines),
+        }
+    }
+}
 
 /// Reads one line without its newline into `line`, keeping no more bytes than
 /// are needed to see that it is too long. False at the end of the script.
@@ -33,25 +102,11 @@ fn next_line(input: &mut dyn BufRead, line: &mut Vec<u8>) -> io::Result<bool> {
 
 /// Plays a whole script.
 pub fn play(input: &mut dyn BufRead, output: &mut dyn Write) -> io::Result<()> {
-    let mut driver = Driver::new();
+    let mut player = Player::new();
     let mut line = Vec::new();
-    let mut number: u64 = 0;
     while next_line(input, &mut line)? {
-        number += 1;
-        if line.is_empty() || line[0] == b'#' {
-            continue;
-        }
-        match command::command(&line) {
-            None => writeln!(output, "? {}", number)?,
-            Some(command) => match driver.obey(command) {
-                Said::Nothing => {}
-                Said::Answered(answer) => writeln!(output, "{}", answer_text(&answer))?,
-                Said::Shown(lines) => {
-                    for text in lines {
-                        writeln!(output, "{}", text)?;
-                    }
-                }
-            },
+        for text in player.hear(&line).text() {
+            writeln!(output, "{}", text)?;
         }
     }
     output.flush()

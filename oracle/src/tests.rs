@@ -2,6 +2,7 @@
 
 mod cases;
 mod scripts;
+mod shrinking;
 
 use crate::script;
 

@@ -9,10 +9,14 @@ use crate::text::record_words;
 use std::io;
 
 impl Maker<'_> {
-    pub(super) fn open(&mut self) -> io::Result<()> {
+    pub(super) fn opening(&mut self) -> String {
         let (revision, serial) = (self.dice.any(), self.dice.any());
-        let payload = self.dice.payload();
-        self.say(&format!("open {} {} {}", revision, serial, payload))
+        format!("open {} {} {}", revision, serial, self.dice.payload())
+    }
+
+    pub(super) fn open(&mut self) -> io::Result<()> {
+        let line = self.opening();
+        self.say(&line)
     }
 
     /// A chain from an opening, with or without a log.

@@ -34,7 +34,7 @@ impl Maker<'_> {
 
     /// What a careful caller might do next, now and then turning back.
     pub(super) fn sensible(&mut self) -> String {
-        let r = self.driver.record.clone();
+        let r = self.player.driver.record.clone();
         let name = if !r.staged {
             let weights =
                 ["begin", "begin", "begin-structural", "begin-structural", "refresh", "stamp"];
@@ -114,13 +114,12 @@ impl Maker<'_> {
     }
 
     fn check(&mut self) -> String {
-        let revision = self.driver.record.revision;
+        let revision = self.player.driver.record.revision;
         let domain = self.dice.any();
-        let given = if self.dice.chance(70) { domain } else { self.dice.any() };
+        let given = if self.dice.chance(70) { domain } else { self.dice.beside(domain) };
         let stamped = match self.dice.below(10) {
             0 => self.dice.any(),
-            1 => revision.wrapping_add(1),
-            2 => revision.wrapping_sub(1),
+            1 | 2 => self.dice.beside(revision),
             _ => revision,
         };
         format!("check {} {} {}", domain, given, stamped)
@@ -128,12 +127,11 @@ impl Maker<'_> {
 
     /// Ticket, outcome and code of a report: mostly the live ticket.
     fn report(&mut self) -> String {
-        let serial = self.driver.record.serial;
-        let live = self.driver.record.live.map_or(serial, |(_, number)| number);
+        let serial = self.player.driver.record.serial;
+        let live = self.player.driver.record.live.map_or(serial, |(_, number)| number);
         let ticket = match self.dice.below(12) {
             0 => self.dice.any(),
-            1 => live.wrapping_sub(1),
-            2 => live.wrapping_add(1),
+            1 | 2 => self.dice.beside(live),
             _ => live,
         };
         let outcome = if self.dice.chance(70) { 2 } else { self.dice.below(2) };

@@ -50,7 +50,7 @@ impl Maker<'_> {
 
     pub(super) fn broken_head(&mut self) -> io::Result<()> {
         self.sound_log(1)?;
-        let room = (self.driver.lent_log() as u64 - 4) / 4;
+        let room = (self.player.driver.lent_log() as u64 - 4) / 4;
         let (at, value) = match self.dice.below(6) {
             0 => (0, room + 1),
             1 => (0, TOP),

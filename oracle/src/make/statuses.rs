@@ -39,7 +39,7 @@ impl Maker<'_> {
     }
 
     pub(super) fn id(&mut self) -> u64 {
-        let length = self.driver.lent[6] as u64;
+        let length = self.player.driver.lent[6] as u64;
         match self.dice.below(12) {
             0 => 0,
             1 => length,

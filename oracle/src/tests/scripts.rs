@@ -133,11 +133,11 @@ fn lines_across_small_buffers() {
 fn made_scripts_fill_every_cell() {
     let mut tally = table::Tally::new();
     let mut made = Vec::new();
-    make::make(1, 20_000, &mut made, &mut |name, answer| tally.count(name, answer)).unwrap();
+    make::make(1, 20_000, &mut made, &mut |made| tally.count(made)).unwrap();
     let (empty, strange) = tally.faults();
     assert_eq!((empty, strange), (vec![], vec![]), "{}", tally.text());
     let mut again = Vec::new();
-    make::make(1, 20_000, &mut again, &mut |_, _| {}).unwrap();
+    make::make(1, 20_000, &mut again, &mut |_| {}).unwrap();
     assert!(made == again);
 }
 
