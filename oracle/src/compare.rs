@@ -68,7 +68,7 @@ pub fn compare(plan: &Plan, output: &mut dyn Write) -> io::Result<bool> {
             return Ok(false);
         }
     }
-    for seed in (plan.first_seed..).take(plan.seeds as usize) {
+    for seed in (0..plan.seeds).map(|at| plan.first_seed.wrapping_add(at)) {
         let mut script = Vec::new();
         make::make(seed, plan.calls, &mut script, &mut |_| {})?;
         if seed % 2 == 1 {

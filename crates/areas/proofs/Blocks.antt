@@ -53,17 +53,27 @@ put-more {d} {b} {l} {at} {j} v hd hb = record {
 pub put-all : {d b l : List ℕ} {at j n : ℕ} → Putting d at b l j → j ≡ n → l ≡ paste d at b n
 put-all {d} {b} {l} {at} v e = v .front ∙ ap (paste d at b) e
 
+-- a copy that is under way: what is copied, and behind it what was there
+module _ {d s m : List ℕ} {i : ℕ} (v : Copying d s m i) where
+  done : take i m ≡ take i s
+  done = ap (take i) (v .front) ∙ take-at (take i s) (drop i d) i (length-take-le i s (v .within))
+
+  kept : drop i m ≡ drop i d
+  kept = ap (drop i) (v .front) ∙ drop-at (take i s) (drop i d) i (length-take-le i s (v .within))
+
+  kept-on : (n : ℕ) → drop (i + n) m ≡ drop (i + n) d
+  kept-on n = sym (drop-drop n i m) ∙ ap (drop n) kept ∙ drop-drop n i d
+
 -- one turn of a copy by blocks: the next n of s are put behind those that are copied
 paste-more : {d s l : List ℕ} {i : ℕ} (n : ℕ) → Copying d s l i → i + n ≤ length s → i + n ≤ length d
     → Copying d s (paste l i (take n (drop i s)) n) (i + n)
 paste-more {d} {s} {l} {i} n v hs hd = record {
   within = hs;
   front =
-      ap (λ (k : List ℕ). paste k i (take n (drop i s)) n) (v .front)
-      ∙ ap (λ (r : List ℕ). r ++ take n (take n (drop i s)) ++ drop (i + n) (over d s i)) (take-at (take i s) (drop i d) i (length-take-le i s (omega arith)))
-      ∙ ap (λ (r : List ℕ). take i s ++ r ++ drop (i + n) (over d s i)) (take-take n n (drop i s) (omega arith))
-      ∙ ap (λ (r : List ℕ). r ++ drop (i + n) (over d s i)) (sym (take-add i n s))
-      ∙ ap (λ (r : List ℕ). take (i + n) s ++ r) (sym (drop-drop n i (over d s i)) ∙ ap (drop n) (drop-at (take i s) (drop i d) i (length-take-le i s (omega arith))) ∙ drop-drop n i d);
+      ap (λ (r : List ℕ). r ++ take n (take n (drop i s)) ++ drop (i + n) l) (done v)
+      ∙ ap (λ (r : List ℕ). take i s ++ r ++ drop (i + n) l) (take-take n n (drop i s) (omega arith))
+      ∙ ap (λ (r : List ℕ). r ++ drop (i + n) l) (sym (take-add i n s))
+      ∙ ap (λ (r : List ℕ). take (i + n) s ++ r) (kept-on v n);
   long =
       let t = length-take-le n (drop i s) (omega (arith, length-drop i s)) in
       length-paste l i (take n (drop i s)) n (omega (arith, v .long)) (omega (arith, t)) ∙ v .long;
@@ -79,25 +89,16 @@ block-more {d} {s} {l} {b} {m} {i} n v e f hs hd =
 pub copy-again : {d s m : List ℕ} {i : ℕ} → Copying d s m i → Copying m s m i
 copy-again {d} {s} {m} {i} v = record {
   within = v .within;
-  front =
-      v .front
-      ∙ sym (ap (λ (r : List ℕ). take i s ++ r) (ap (drop i) (v .front) ∙ drop-at (take i s) (drop i d) i (length-take-le i s (v .within))));
+  front = v .front ∙ sym (ap (λ (r : List ℕ). take i s ++ r) (kept v));
   long = refl;
 }
 
 -- and is then what it would be in one go
 pub copy-then : {d s m l : List ℕ} {i j : ℕ} → Copying d s m i → Copying m s l j → i ≤ j → Copying d s l j
-copy-then {d} {s} {m} {l} {i} {j} v w h = record {
-  within = w .within;
-  front = w .front ∙ ap (λ (r : List ℕ). take j s ++ r) rest;
-  long = w .long ∙ v .long;
-}
-  where
-    rest : drop j m ≡ drop j d
-    rest =
-        let e : i + (j - i) ≡ j = omega arith in
-        sym (ap (λ (k : ℕ). drop k m) e)
-        ∙ sym (drop-drop (j - i) i m)
-        ∙ ap (drop (j - i)) (ap (drop i) (v .front) ∙ drop-at (take i s) (drop i d) i (length-take-le i s (v .within)))
-        ∙ drop-drop (j - i) i d
-        ∙ ap (λ (k : ℕ). drop k d) e
+copy-then {d} {s} {m} {l} {i} {j} v w h =
+    let e : i + (j - i) ≡ j = omega arith in
+    record {
+      within = w .within;
+      front = w .front ∙ ap (λ (r : List ℕ). take j s ++ r) (subst (λ (k : ℕ). drop k m ≡ drop k d) e (kept-on v (j - i)));
+      long = w .long ∙ v .long;
+    }
