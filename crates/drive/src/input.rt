@@ -27,13 +27,17 @@ struct Taken {
     whole: bool,
 }
 
-pub(crate) fn start() -> Place {
+fn standing(at: usize, filled: usize, length: usize, ended: bool) -> Place {
     Place {
-        at: 0,
-        filled: 0,
-        length: 0,
-        ended: false,
+        at: at,
+        filled: filled,
+        length: length,
+        ended: ended,
     }
+}
+
+pub(crate) fn start() -> Place {
+    standing(0, 0, 0, false)
 }
 
 fn put(line: &mut [u8], length: usize, byte: u8) -> usize {
@@ -86,27 +90,17 @@ fn next_line(chunk: &mut [u8], line: &mut [u8], place: Place) -> Place {
     while turns > 0 {
         let taken = take(front(chunk, filled), at, line, count);
         if taken.whole {
-            return Place {
-                at: taken.at,
-                filled: filled,
-                length: taken.length,
-                ended: false,
-            };
+            return standing(taken.at, filled, taken.length, false);
         }
         count = taken.length;
         filled = refill(chunk);
         at = 0;
         if filled == 0 {
-            break;
+            return standing(0, 0, count, true);
         }
         turns -= 1;
     }
-    Place {
-        at: 0,
-        filled: 0,
-        length: count,
-        ended: true,
-    }
+    standing(0, 0, count, true)
 }
 
 // Reads the next line, and finds its command.

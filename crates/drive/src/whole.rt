@@ -1,9 +1,13 @@
 // The commands over all that the driver holds, lent or not: one element, a payload in the exchange area, and digests to show.
 use super::NUMBERS;
+use super::answers::After;
 use super::answers::Told;
+use super::answers::leaving;
 use super::commands::Whole;
+use super::held::Lent;
 use super::held::fill;
 use super::show::digests;
+use record::Record;
 
 fn put_byte(bytes: &mut [u8], at: usize, value: u64) -> Told {
     if 255 < value {
@@ -55,6 +59,8 @@ fn put(
 
 pub(crate) fn perform(
     which: Whole,
+    record: Record,
+    lent: Lent,
     numbers: [u64; NUMBERS],
     a: &mut [u8],
     c: &mut [u8],
@@ -64,13 +70,16 @@ pub(crate) fn perform(
     l: &mut [u64],
     g: &mut [u8],
     s: &mut [u8],
-) -> Told {
+) -> After {
     match which {
-        Whole::Show => Told::Shown(digests(a, c, r, x, t, l, g, s)),
-        Whole::Put => put(numbers, a, c, r, x, t, l, g, s),
+        Whole::Show => {
+            let shown = digests(a, c, r, x, t, l, g, s);
+            leaving(record, lent, Told::Shown(shown))
+        }
+        Whole::Put => leaving(record, lent, put(numbers, a, c, r, x, t, l, g, s)),
         Whole::Fill => {
             fill(x, numbers[0], numbers[1]);
-            Told::Nothing
+            leaving(record, lent, Told::Nothing)
         }
     }
 }
