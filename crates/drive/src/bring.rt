@@ -15,6 +15,16 @@ use record::Stepped;
 use staging::Opening;
 ghost use Prim.Native.Nat.{_≤_};
 
+// The lengths and seeds of the payloads and the words that a line names, 0 where the command has none.
+struct Named {
+    new: u64,
+    new_seed: u64,
+    old: u64,
+    old_seed: u64,
+    pairs: u64,
+    pairs_seed: u64,
+}
+
 // The place of the first payload's length among a command's numbers.
 fn first_payload(which: Bringing) -> usize
     ensures { λ n. ⌜ n ≤ 3 ⌝ }
@@ -23,6 +33,18 @@ fn first_payload(which: Bringing) -> usize
         Bringing::Open => 2,
         Bringing::ReportStructure => 3,
         _ => 0,
+    }
+}
+
+fn naming(which: Bringing, numbers: [u64; NUMBERS]) -> Named {
+    let k = first_payload(which);
+    Named {
+        new: numbers[k],
+        new_seed: numbers[k + 1],
+        old: numbers[k + 2],
+        old_seed: numbers[k + 3],
+        pairs: numbers[k + 4],
+        pairs_seed: numbers[k + 5],
     }
 }
 
@@ -97,7 +119,7 @@ fn bring_logged(
     }
 }
 
-// Makes what the line names: a payload, a second one and words, empty where the command has none; then makes the call.
+// Makes the payloads and the words that the line names, and then the call.
 pub(crate) fn bring(
     which: Bringing,
     record: Record,
@@ -108,16 +130,16 @@ pub(crate) fn bring(
     r: &mut [u8],
     t: &mut [u64],
 ) -> Stepped {
-    let k = first_payload(which);
+    let named = naming(which, numbers);
     let mut first = [0u8; AREA];
     let mut second = [0u8; AREA];
     let mut third = [0u64; TABLE];
-    fill(&mut first, numbers[k], numbers[k + 1]);
-    fill(&mut second, numbers[k + 2], numbers[k + 3]);
-    fill_words(&mut third, numbers[k + 4], numbers[k + 5]);
-    let new = front(&first, numbers[k] as usize);
-    let old = front(&second, numbers[k + 2] as usize);
-    let pairs = front_of_words(&third, numbers[k + 4] as usize);
+    fill(&mut first, named.new, named.new_seed);
+    fill(&mut second, named.old, named.old_seed);
+    fill_words(&mut third, named.pairs, named.pairs_seed);
+    let new = front(&first, named.new as usize);
+    let old = front(&second, named.old as usize);
+    let pairs = front_of_words(&third, named.pairs as usize);
     if l.len() == 0 {
         bring_itself(which, record, numbers, a, c, r, t, new, old, pairs)
     } else {

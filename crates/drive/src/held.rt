@@ -16,7 +16,7 @@ pub(crate) struct Lent {
     pub(crate) status: usize,
 }
 
-// At the start: whole areas and a whole table, and no log.
+// What is lent at the start: areas and a table of the sizes that calls ask for, and no log.
 pub(crate) fn lent_first() -> Lent {
     Lent {
         accepted: 4096,

@@ -40,6 +40,7 @@ pub(crate) fn start() -> Place {
     standing(0, 0, 0, false)
 }
 
+// Keeps one byte more of the line, where there is room.
 fn put(line: &mut [u8], length: usize, byte: u8) -> usize {
     if length < line.len() {
         line[length] = byte;
@@ -72,7 +73,7 @@ fn take(read: &[u8], from: usize, line: &mut [u8], so_far: usize) -> Taken {
     }
 }
 
-// Reads the chunk anew.
+// Reads the chunk anew, and answers how many bytes came. An input that cannot be read is at its end.
 fn refill(chunk: &mut [u8]) -> usize {
     let got = libc::read(libc::STDIN_FILENO, chunk);
     if got < 0 {
@@ -82,6 +83,7 @@ fn refill(chunk: &mut [u8]) -> usize {
 }
 
 // The next line, without its newline, goes to `line`. Where the input ends before any byte of it, its length is 0 and `ended` holds.
+// Nothing says that an input ends, and a proved loop has to: it counts its turns down, from a number that no run uses up.
 fn next_line(chunk: &mut [u8], line: &mut [u8], place: Place) -> Place {
     let mut at = place.at;
     let mut filled = place.filled;

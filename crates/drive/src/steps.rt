@@ -32,7 +32,7 @@ pub(crate) fn ask(which: Work, record: Record, l: &mut [u64]) -> Stepped {
     }
 }
 
-// The report of an undone action, or of one that was done.
+// The report of an update or of a rollback; that of structure work brings payloads.
 pub(crate) fn report(
     which: Work,
     record: Record,
