@@ -1,16 +1,29 @@
 // The calls that bring payloads in: open, begin, begin structural, edit and report structure. Where no log is lent they go to the
-// transaction itself, and where one is lent, all but edits to the recorder.
+// transaction itself, and where one is lent, all but edits to the recorder. Areas go by the letters of a script: a accepted, c
+// candidate, r recovery, t the table, l the log.
+use super::AREA;
 use super::NUMBERS;
+use super::TABLE;
 use super::commands::Bringing;
+use super::held::fill;
+use super::held::fill_words;
 use super::held::front;
 use super::held::front_of_words;
-use super::held::payload;
-use super::held::words;
 use record::Outcome;
 use record::Record;
 use record::Stepped;
 use staging::Opening;
 ghost use Prim.Native.Nat.{_≤_};
+
+// The lengths and seeds of the payloads and the words that a line names, 0 where the command has none.
+struct Named {
+    new: u64,
+    new_seed: u64,
+    old: u64,
+    old_seed: u64,
+    pairs: u64,
+    pairs_seed: u64,
+}
 
 // The place of the first payload's length among a command's numbers.
 fn first_payload(which: Bringing) -> usize
@@ -20,6 +33,18 @@ fn first_payload(which: Bringing) -> usize
         Bringing::Open => 2,
         Bringing::ReportStructure => 3,
         _ => 0,
+    }
+}
+
+fn naming(which: Bringing, numbers: [u64; NUMBERS]) -> Named {
+    let k = first_payload(which);
+    Named {
+        new: numbers[k],
+        new_seed: numbers[k + 1],
+        old: numbers[k + 2],
+        old_seed: numbers[k + 3],
+        pairs: numbers[k + 4],
+        pairs_seed: numbers[k + 5],
     }
 }
 
@@ -43,25 +68,25 @@ fn bring_itself(
     which: Bringing,
     record: Record,
     numbers: [u64; NUMBERS],
-    accepted: &mut [u8],
-    candidate: &mut [u8],
-    recovery: &mut [u8],
-    table: &mut [u64],
+    a: &mut [u8],
+    c: &mut [u8],
+    r: &mut [u8],
+    t: &mut [u64],
     new: &[u8],
     old: &[u8],
     pairs: &[u64],
 ) -> Stepped {
     let ticket = numbers[0];
+    let outcome = outcome(numbers[1], numbers[2]);
     match which {
-        Bringing::Open => transaction::open(opening(numbers), accepted, new),
-        Bringing::Begin => transaction::begin(record, candidate, recovery, table, new, old, pairs),
+        Bringing::Open => transaction::open(opening(numbers), a, new),
+        Bringing::Begin => transaction::begin(record, c, r, t, new, old, pairs),
         Bringing::BeginStructural => {
-            transaction::begin_structural(record, candidate, recovery, table, new, old, pairs)
+            transaction::begin_structural(record, c, r, t, new, old, pairs)
         }
-        Bringing::Edit => transaction::edit(record, candidate, recovery, new, old),
+        Bringing::Edit => transaction::edit(record, c, r, new, old),
         Bringing::ReportStructure => {
-            let outcome = outcome(numbers[1], numbers[2]);
-            transaction::report_structure(record, candidate, recovery, ticket, outcome, new, old)
+            transaction::report_structure(record, c, r, ticket, outcome, new, old)
         }
     }
 }
@@ -70,83 +95,54 @@ fn bring_logged(
     which: Bringing,
     record: Record,
     numbers: [u64; NUMBERS],
-    log: &mut [u64],
-    accepted: &mut [u8],
-    candidate: &mut [u8],
-    recovery: &mut [u8],
-    table: &mut [u64],
+    l: &mut [u64],
+    a: &mut [u8],
+    c: &mut [u8],
+    r: &mut [u8],
+    t: &mut [u64],
     new: &[u8],
     old: &[u8],
     pairs: &[u64],
 ) -> Stepped {
     let ticket = numbers[0];
+    let outcome = outcome(numbers[1], numbers[2]);
     match which {
-        Bringing::Open => recorder::open(opening(numbers), log, accepted, new),
-        Bringing::Begin => recorder::begin(
-            record,
-            log,
-            candidate,
-            recovery,
-            table,
-            new,
-            old,
-            pairs,
-        ),
+        Bringing::Open => recorder::open(opening(numbers), l, a, new),
+        Bringing::Begin => recorder::begin(record, l, c, r, t, new, old, pairs),
         Bringing::BeginStructural => {
-            recorder::begin_structural(record, log, candidate, recovery, table, new, old, pairs)
+            recorder::begin_structural(record, l, c, r, t, new, old, pairs)
         }
-        Bringing::Edit => transaction::edit(record, candidate, recovery, new, old),
+        Bringing::Edit => transaction::edit(record, c, r, new, old),
         Bringing::ReportStructure => {
-            let outcome = outcome(numbers[1], numbers[2]);
-            recorder::report_structure(record, log, candidate, recovery, ticket, outcome, new, old)
+            recorder::report_structure(record, l, c, r, ticket, outcome, new, old)
         }
     }
 }
 
-// Makes what the line names: a payload, a second one and words, empty where the command has none; then makes the call.
+// Makes the payloads and the words that the line names, and then the call.
 pub(crate) fn bring(
     which: Bringing,
     record: Record,
     numbers: [u64; NUMBERS],
-    log: &mut [u64],
-    accepted: &mut [u8],
-    candidate: &mut [u8],
-    recovery: &mut [u8],
-    table: &mut [u64],
+    l: &mut [u64],
+    a: &mut [u8],
+    c: &mut [u8],
+    r: &mut [u8],
+    t: &mut [u64],
 ) -> Stepped {
-    let k = first_payload(which);
-    let first = payload(numbers[k], numbers[k + 1]);
-    let second = payload(numbers[k + 2], numbers[k + 3]);
-    let third = words(numbers[k + 4], numbers[k + 5]);
-    let new = front(&first, numbers[k] as usize);
-    let old = front(&second, numbers[k + 2] as usize);
-    let pairs = front_of_words(&third, numbers[k + 4] as usize);
-    if log.len() == 0 {
-        bring_itself(
-            which,
-            record,
-            numbers,
-            accepted,
-            candidate,
-            recovery,
-            table,
-            new,
-            old,
-            pairs,
-        )
+    let named = naming(which, numbers);
+    let mut first = [0u8; AREA];
+    let mut second = [0u8; AREA];
+    let mut third = [0u64; TABLE];
+    fill(&mut first, named.new, named.new_seed);
+    fill(&mut second, named.old, named.old_seed);
+    fill_words(&mut third, named.pairs, named.pairs_seed);
+    let new = front(&first, named.new as usize);
+    let old = front(&second, named.old as usize);
+    let pairs = front_of_words(&third, named.pairs as usize);
+    if l.len() == 0 {
+        bring_itself(which, record, numbers, a, c, r, t, new, old, pairs)
     } else {
-        bring_logged(
-            which,
-            record,
-            numbers,
-            log,
-            accepted,
-            candidate,
-            recovery,
-            table,
-            new,
-            old,
-            pairs,
-        )
+        bring_logged(which, record, numbers, l, a, c, r, t, new, old, pairs)
     }
 }

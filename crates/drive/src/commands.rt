@@ -121,7 +121,7 @@ fn bare(which: Plain) -> Line {
 }
 
 // The first template that the line fits.
-fn find(line: &[u8], templates: &[u8]) -> Line {
+fn first_fitting(line: &[u8], templates: &[u8]) -> Line {
     let mut place = 0;
     let mut at = 0;
     while place < COMMANDS {
@@ -136,18 +136,8 @@ fn find(line: &[u8], templates: &[u8]) -> Line {
     bare(Plain::Bad)
 }
 
-// The command of a line. An empty line and a comment say nothing, however long.
-pub(crate) fn read(line: &[u8]) -> Line {
-    if line.len() == 0 {
-        return bare(Plain::Nothing);
-    }
-    if line[0] == b'#' {
-        return bare(Plain::Nothing);
-    }
-    if LONGEST < line.len() {
-        return bare(Plain::Bad);
-    }
-    find(
+fn find(line: &[u8]) -> Line {
+    first_fitting(
         line,
         b"show
 put B N N
@@ -175,4 +165,18 @@ initialize N
 cancel N
 ",
     )
+}
+
+// The command of a line. An empty line and a comment say nothing, however long.
+pub(crate) fn read(line: &[u8]) -> Line {
+    if line.len() == 0 {
+        return bare(Plain::Nothing);
+    }
+    if line[0] == b'#' {
+        return bare(Plain::Nothing);
+    }
+    if LONGEST < line.len() {
+        return bare(Plain::Bad);
+    }
+    find(line)
 }

@@ -3,8 +3,6 @@ use super::AREA;
 use super::LOG;
 use super::MARKS;
 use super::TABLE;
-ghost use mathlib.Core.Path.{_≡_};
-ghost use lib.ListN.{length};
 
 // How many elements are lent of each area.
 pub(crate) struct Lent {
@@ -18,7 +16,7 @@ pub(crate) struct Lent {
     pub(crate) status: usize,
 }
 
-// At the start: whole areas and a whole table, and no log.
+// What is lent at the start: areas and a table of the sizes that calls ask for, and no log.
 pub(crate) fn lent_first() -> Lent {
     Lent {
         accepted: 4096,
@@ -92,16 +90,8 @@ pub(crate) fn fill(bytes: &mut [u8], count: u64, seed: u64) {
     }
 }
 
-// A payload, with zeros after it.
-pub(crate) fn payload(count: u64, seed: u64) -> [u8; AREA]
-    ensures { λ r. ⌜ 5000 ≡ length r ⌝ }
-{
-    let mut bytes = [0u8; AREA];
-    fill(&mut bytes, count, seed);
-    bytes
-}
-
-fn fill_words(words: &mut [u64], count: u64, seed: u64) {
+// The start of `words` becomes words that a script names: word i is seed + i.
+pub(crate) fn fill_words(words: &mut [u64], count: u64, seed: u64) {
     let mut i = 0;
     while i < words.len() {
         if count <= i as u64 {
@@ -110,13 +100,4 @@ fn fill_words(words: &mut [u64], count: u64, seed: u64) {
         words[i] = std::num::wrapping_add_u64(seed, i as u64);
         i += 1;
     }
-}
-
-// Words, with zeros after them: word i is seed + i.
-pub(crate) fn words(count: u64, seed: u64) -> [u64; TABLE]
-    ensures { λ r. ⌜ 2200 ≡ length r ⌝ }
-{
-    let mut words = [0u64; TABLE];
-    fill_words(&mut words, count, seed);
-    words
 }

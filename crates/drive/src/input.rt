@@ -27,15 +27,20 @@ struct Taken {
     whole: bool,
 }
 
-pub(crate) fn start() -> Place {
+fn standing(at: usize, filled: usize, length: usize, ended: bool) -> Place {
     Place {
-        at: 0,
-        filled: 0,
-        length: 0,
-        ended: false,
+        at: at,
+        filled: filled,
+        length: length,
+        ended: ended,
     }
 }
 
+pub(crate) fn start() -> Place {
+    standing(0, 0, 0, false)
+}
+
+// Keeps one byte more of the line, where there is room.
 fn put(line: &mut [u8], length: usize, byte: u8) -> usize {
     if length < line.len() {
         line[length] = byte;
@@ -68,7 +73,7 @@ fn take(read: &[u8], from: usize, line: &mut [u8], so_far: usize) -> Taken {
     }
 }
 
-// Reads the chunk anew.
+// Reads the chunk anew, and answers how many bytes came. An input that cannot be read is at its end.
 fn refill(chunk: &mut [u8]) -> usize {
     let got = libc::read(libc::STDIN_FILENO, chunk);
     if got < 0 {
@@ -78,6 +83,7 @@ fn refill(chunk: &mut [u8]) -> usize {
 }
 
 // The next line, without its newline, goes to `line`. Where the input ends before any byte of it, its length is 0 and `ended` holds.
+// Nothing says that an input ends, and a proved loop has to: it counts its turns down, from a number that no run uses up.
 fn next_line(chunk: &mut [u8], line: &mut [u8], place: Place) -> Place {
     let mut at = place.at;
     let mut filled = place.filled;
@@ -86,27 +92,17 @@ fn next_line(chunk: &mut [u8], line: &mut [u8], place: Place) -> Place {
     while turns > 0 {
         let taken = take(front(chunk, filled), at, line, count);
         if taken.whole {
-            return Place {
-                at: taken.at,
-                filled: filled,
-                length: taken.length,
-                ended: false,
-            };
+            return standing(taken.at, filled, taken.length, false);
         }
         count = taken.length;
         filled = refill(chunk);
         at = 0;
         if filled == 0 {
-            break;
+            return standing(0, 0, count, true);
         }
         turns -= 1;
     }
-    Place {
-        at: 0,
-        filled: 0,
-        length: count,
-        ended: true,
-    }
+    standing(0, 0, count, true)
 }
 
 // Reads the next line, and finds its command.

@@ -1,5 +1,6 @@
 // Writing to standard output by way of a buffer, of which the first `written` bytes wait. Every function answers how many wait now.
 // What does not fit any more is left out; `flush_before` makes room for the longest answer first.
+use super::answers::After;
 use super::answers::Digests;
 use super::answers::Numbers;
 use super::answers::Told;
@@ -90,14 +91,10 @@ fn put_shown(buffer: &mut [u8], written: usize, record: Record, d: Digests) -> u
     put_line(buffer, at, b"status", &[d.groups, d.status])
 }
 
-// The answer to a line of this number.
-pub(crate) fn put_told(
-    buffer: &mut [u8],
-    written: usize,
-    record: Record,
-    told: Told,
-    line: u64,
-) -> usize {
+// The answer to the line of this number, and what the line left.
+pub(crate) fn put_told(buffer: &mut [u8], written: usize, after: After, line: u64) -> usize {
+    let record = after.record;
+    let told = after.told;
     match told {
         Told::Nothing => written,
         Told::Bad => put_line(buffer, written, b"?", &[line]),

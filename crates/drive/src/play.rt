@@ -14,7 +14,6 @@ use super::commands::Calling;
 use super::commands::Command;
 use super::commands::Line;
 use super::held::Lent;
-use super::held::front;
 use super::held::lent_first;
 use super::held::part;
 use super::held::part_of_words;
@@ -88,18 +87,12 @@ fn perform(
     match command {
         Command::Plain(which) => plain::perform(which, record, lent, numbers),
         Command::Whole(which) => {
-            let told = whole::perform(which, numbers, a, c, r, x, t, l, g, s);
-            leaving(record, lent, told)
+            whole::perform(which, record, lent, numbers, a, c, r, x, t, l, g, s)
         }
-        Command::Mark(which) => {
-            let g = front(g, lent.groups);
-            let s = part(s, lent.status);
-            after_mark(record, lent, mark(which, numbers, g, s))
+        Command::Call(which) => {
+            after_call(call(which, record, lent, numbers, a, c, r, x, t, l), lent)
         }
-        Command::Call(which) => after_call(
-            call(which, record, lent, numbers, a, c, r, x, t, l),
-            lent,
-        ),
+        Command::Mark(which) => after_mark(record, lent, mark(which, lent, numbers, g, s)),
     }
 }
 
@@ -125,15 +118,13 @@ fn play_lines(
         written = flush_before(place.at == place.filled, buffer, written);
         let next = input::next_command(chunk, place);
         place = next.place;
+        // The end: nothing was left to read, so all that waited has been written out.
         if place.ended & (place.length == 0) {
-            flush_before(true, buffer, written);
             return;
         }
         let line = next.line;
         state = perform(line, state, a, c, r, x, t, l, g, s);
-        let record = state.record;
-        let told = state.told;
-        written = put_told(buffer, written, record, told, number);
+        written = put_told(buffer, written, state, number);
     }
 }
 

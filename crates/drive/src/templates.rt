@@ -15,6 +15,7 @@ enum Read {
     Wrong,
 }
 
+// Whether a line fits a template, and the numbers that were read of it, with zeros after them.
 pub(crate) struct Fitted {
     pub(crate) fits: bool,
     pub(crate) numbers: [u64; NUMBERS],

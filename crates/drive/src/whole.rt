@@ -1,9 +1,13 @@
 // The commands over all that the driver holds, lent or not: one element, a payload in the exchange area, and digests to show.
 use super::NUMBERS;
+use super::answers::After;
 use super::answers::Told;
+use super::answers::leaving;
 use super::commands::Whole;
+use super::held::Lent;
 use super::held::fill;
 use super::show::digests;
+use record::Record;
 
 fn put_byte(bytes: &mut [u8], at: usize, value: u64) -> Told {
     if 255 < value {
@@ -29,33 +33,6 @@ fn put_word(words: &mut [u64], at: usize, value: u64) -> Told {
 // `put`: one element of an area, lent or not.
 fn put(
     numbers: [u64; NUMBERS],
-    accepted: &mut [u8],
-    candidate: &mut [u8],
-    recovery: &mut [u8],
-    exchange: &mut [u8],
-    table: &mut [u64],
-    log: &mut [u64],
-    groups: &mut [u8],
-    status: &mut [u8],
-) -> Told {
-    let area = numbers[0];
-    let at = numbers[1] as usize;
-    let value = numbers[2];
-    match area {
-        0 => put_byte(accepted, at, value),
-        1 => put_byte(candidate, at, value),
-        2 => put_byte(recovery, at, value),
-        3 => put_byte(exchange, at, value),
-        4 => put_word(table, at, value),
-        5 => put_word(log, at, value),
-        6 => put_byte(groups, at, value),
-        _ => put_byte(status, at, value),
-    }
-}
-
-pub(crate) fn perform(
-    which: Whole,
-    numbers: [u64; NUMBERS],
     a: &mut [u8],
     c: &mut [u8],
     r: &mut [u8],
@@ -65,12 +42,44 @@ pub(crate) fn perform(
     g: &mut [u8],
     s: &mut [u8],
 ) -> Told {
+    let area = numbers[0];
+    let at = numbers[1] as usize;
+    let value = numbers[2];
+    match area {
+        0 => put_byte(a, at, value),
+        1 => put_byte(c, at, value),
+        2 => put_byte(r, at, value),
+        3 => put_byte(x, at, value),
+        4 => put_word(t, at, value),
+        5 => put_word(l, at, value),
+        6 => put_byte(g, at, value),
+        _ => put_byte(s, at, value),
+    }
+}
+
+pub(crate) fn perform(
+    which: Whole,
+    record: Record,
+    lent: Lent,
+    numbers: [u64; NUMBERS],
+    a: &mut [u8],
+    c: &mut [u8],
+    r: &mut [u8],
+    x: &mut [u8],
+    t: &mut [u64],
+    l: &mut [u64],
+    g: &mut [u8],
+    s: &mut [u8],
+) -> After {
     match which {
-        Whole::Show => Told::Shown(digests(a, c, r, x, t, l, g, s)),
-        Whole::Put => put(numbers, a, c, r, x, t, l, g, s),
+        Whole::Show => {
+            let shown = digests(a, c, r, x, t, l, g, s);
+            leaving(record, lent, Told::Shown(shown))
+        }
+        Whole::Put => leaving(record, lent, put(numbers, a, c, r, x, t, l, g, s)),
         Whole::Fill => {
             fill(x, numbers[0], numbers[1]);
-            Told::Nothing
+            leaving(record, lent, Told::Nothing)
         }
     }
 }

@@ -1,8 +1,8 @@
--- `drive::commands::find` is safe and ends: it counts the templates. Assumes nothing.
+-- `drive::commands::first_fitting` is safe and ends: it counts the templates. Assumes nothing.
 use Prim.Native.Nat.{_≤_, _-_}
 use borrow.Author.Needs.{needs}
-use Rattle.drive.proofs.commands.find.Statement.{statement}
-use Rattle.drive.proofs.commands.find.Tie as tie
+use Rattle.drive.proofs.commands.first_fitting.Statement.{statement}
+use Rattle.drive.proofs.commands.first_fitting.Tie as tie
 
 abbrev Inv-loop : tie.InvT-loop
 Inv-loop line templates place₀ at₀ place at = place ≤ 24
@@ -43,8 +43,8 @@ bare-requires c κs = search needs
 returns-2 : tie.Need-returns-2 Inv-loop μ-loop
 returns-2 c = search needs
 
-pub find-spec : {M : Type 1} → statement M
-find-spec =
+pub first-fitting-spec : {M : Type 1} → statement M
+first-fitting-spec =
     tie.close
     (tie.spec
     Inv-loop
