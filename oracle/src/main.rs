@@ -4,6 +4,8 @@
 //! Written from document 01 and the page on the driver's script alone.
 
 mod boundary;
+mod command;
+mod compare;
 mod dice;
 mod driver;
 mod log;
@@ -14,6 +16,7 @@ mod status;
 mod table;
 #[cfg(test)]
 mod tests;
+mod text;
 
 use std::io::{self, BufWriter, Write};
 use std::process::ExitCode;
@@ -24,49 +27,61 @@ const USAGE: &str = "usage:
   oracle table SEED CALLS    counts such a script's answers, call by call
   oracle boundary            prints the fixed script of boundary cases
   oracle sweep               prints the fixed script of all small records
-SEED and CALLS are numbers from 0 to 18446744073709551615.";
+  oracle compare FIRST SEEDS CALLS DRIVER [WORD ..]
+                             plays the fixed scripts and those of SEEDS seeds
+                             from FIRST on, here and by the program DRIVER,
+                             and tells the first difference, made small
+SEED, CALLS, FIRST and SEEDS are numbers from 0 to 18446744073709551615.";
 
-fn numbers(words: &[String]) -> Option<(u64, u64)> {
-    Some((words[1].parse().ok()?, words[2].parse().ok()?))
+/// How a command ended.
+enum End {
+    Well,
+    Differs,
+    Unknown,
 }
 
 fn make(seed: u64, calls: u64, output: &mut dyn Write) -> io::Result<()> {
-    make::make(seed, calls, output, &mut |_, _| {})
+    make::make(seed, calls, output, &mut |_| {})
 }
 
 fn table(seed: u64, calls: u64, output: &mut dyn Write) -> io::Result<()> {
     let mut tally = table::Tally::new();
-    make::make(seed, calls, &mut io::sink(), &mut |name, answer| tally.count(name, answer))?;
+    make::make(seed, calls, &mut io::sink(), &mut |made| tally.count(made))?;
     write!(output, "{}", tally.text())
 }
 
-/// Does what the words ask; false where they ask nothing known.
-fn obey(words: &[String], output: &mut dyn Write) -> io::Result<bool> {
+/// Does what the words ask.
+fn obey(words: &[String], output: &mut dyn Write) -> io::Result<End> {
     let name = words.first().map_or("", |word| word.as_str());
-    match (name, words.len()) {
-        ("play", 1) => script::play(&mut io::stdin().lock(), output)?,
-        ("boundary", 1) => boundary::boundary(output)?,
-        ("sweep", 1) => boundary::sweep(output)?,
-        ("make", 3) | ("table", 3) => match numbers(words) {
-            Some((seed, calls)) if name == "make" => make(seed, calls, output)?,
-            Some((seed, calls)) => table(seed, calls, output)?,
-            None => return Ok(false),
-        },
-        _ => return Ok(false),
+    let numbers: Vec<u64> = words.iter().skip(1).map_while(|word| word.parse().ok()).collect();
+    match (name, words.len(), &numbers[..]) {
+        ("play", 1, _) => script::play(&mut io::stdin().lock(), output)?,
+        ("boundary", 1, _) => boundary::boundary(output)?,
+        ("sweep", 1, _) => boundary::sweep(output)?,
+        ("make", 3, [seed, calls]) => make(*seed, *calls, output)?,
+        ("table", 3, [seed, calls]) => table(*seed, *calls, output)?,
+        ("compare", count, [first_seed, seeds, calls, ..]) if count >= 5 => {
+            let (first_seed, seeds, calls) = (*first_seed, *seeds, *calls);
+            let plan = compare::Plan { first_seed, seeds, calls, driver: &words[4..] };
+            if !compare::compare(&plan, output)? {
+                output.flush()?;
+                return Ok(End::Differs);
+            }
+        }
+        _ => return Ok(End::Unknown),
     }
     output.flush()?;
-    Ok(true)
+    Ok(End::Well)
 }
 
 fn main() -> ExitCode {
-    let words: Vec<String> = std::env::args_os()
-        .skip(1)
-        .map(|word| word.to_string_lossy().into_owned())
-        .collect();
+    let words: Vec<String> =
+        std::env::args_os().skip(1).map(|word| word.to_string_lossy().into_owned()).collect();
     let mut output = BufWriter::with_capacity(1 << 16, io::stdout());
     match obey(&words, &mut output) {
-        Ok(true) => ExitCode::SUCCESS,
-        Ok(false) => {
+        Ok(End::Well) => ExitCode::SUCCESS,
+        Ok(End::Differs) => ExitCode::FAILURE,
+        Ok(End::Unknown) => {
             eprintln!("{}", USAGE);
             ExitCode::from(2)
         }

@@ -1,24 +1,80 @@
-//! Reading a script: its lines, words, numbers and commands, and playing it.
+//! Reading a script line by line and playing it.
 //!
-//! Written from the page on the driver's script alone (and document 01 for
-//! what the calls take). Decisions: a comment is a comment however long it is;
-//! a byte that is not ASCII outside a comment makes a `?` line; no field of
-//! the record is narrower here than a u64.
+//! Written from the page on the driver's script alone. Decision: a comment is
+//! a comment however long it is.
 
-use crate::driver::{answer_text, Driver, Said, HELD};
-use crate::model::{Call, Kind, Outcome, Place, Record};
+use crate::command::{self, Command, LINE_MOST};
+use crate::driver::{Driver, Said};
+use crate::model::Answer;
+use crate::text::answer_text;
 use std::io::{self, BufRead, Write};
 
-pub const LINE_MOST: usize = 1000;
-const SEED_MOST: u64 = 1_000_000;
+/// A call that was made: its name, the phase of the record before it where
+/// that was whole, and its answer.
+pub struct Made {
+    pub name: &'static str,
+    pub phase: Option<u64>,
+    pub answer: Answer,
+}
 
-pub enum Command {
-    Lend(Place, usize),
-    Put(Place, usize, u64),
-    Fill(Vec<u8>),
-    Place(Record),
-    Make(Call),
-    Show,
+impl Made {
+    pub fn text(&self) -> String {
+        answer_text(&self.answer)
+    }
+}
+
+/// What a line of a script led to.
+pub enum Reply {
+    Nothing,
+    Bad(u64),
+    Answered(Made),
+    Shown(Vec<String>),
+}
+
+impl Reply {
+    /// The lines that are written.
+    pub fn text(self) -> Vec<String> {
+        match self {
+            Reply::Nothing => vec![],
+            Reply::Bad(number) => vec![format!("? {}", number)],
+            Reply::Answered(made) => vec![made.text()],
+            Reply::Shown(lines) => lines,
+        }
+    }
+}
+
+/// Plays a script, a line at a time.
+pub struct Player {
+    pub driver: Driver,
+    lines: u64,
+}
+
+impl Player {
+    pub fn new() -> Player {
+        Player { driver: Driver::new(), lines: 0 }
+    }
+
+    pub fn hear(&mut self, line: &[u8]) -> Reply {
+        self.lines += 1;
+        if line.is_empty() || line[0] == b'#' {
+            return Reply::Nothing;
+        }
+        let command = match command::command(line) {
+            None => return Reply::Bad(self.lines),
+            Some(command) => command,
+        };
+        let name = match &command {
+            Command::Make(call) => call.name(),
+            _ => "",
+        };
+        let record = &self.driver.record;
+        let phase = if record.whole() { Some(record.phase) } else { None };
+        match self.driver.obey(command) {
+            Said::Nothing => Reply::Nothing,
+            Said::Answered(answer) => Reply::Answered(Made { name, phase, answer }),
+            Said::Shown(lines) => Reply::Shown(lines),
+        }
+    }
 }
 
 /// Reads one line without its newline into `line`, keeping no more bytes than
@@ -46,198 +102,12 @@ fn next_line(input: &mut dyn BufRead, line: &mut Vec<u8>) -> io::Result<bool> {
 
 /// Plays a whole script.
 pub fn play(input: &mut dyn BufRead, output: &mut dyn Write) -> io::Result<()> {
-    let mut driver = Driver::new();
+    let mut player = Player::new();
     let mut line = Vec::new();
-    let mut number: u64 = 0;
     while next_line(input, &mut line)? {
-        number += 1;
-        if line.is_empty() || line[0] == b'#' {
-            continue;
-        }
-        match command(&line) {
-            None => writeln!(output, "? {}", number)?,
-            Some(command) => match driver.obey(command) {
-                Said::Nothing => {}
-                Said::Answered(answer) => writeln!(output, "{}", answer_text(&answer))?,
-                Said::Shown(lines) => {
-                    for text in lines {
-                        writeln!(output, "{}", text)?;
-                    }
-                }
-            },
+        for text in player.hear(&line).text() {
+            writeln!(output, "{}", text)?;
         }
     }
     output.flush()
-}
-
-/// The command of a line that is neither empty nor a comment, if it is one.
-pub fn command(line: &[u8]) -> Option<Command> {
-    if line.len() > LINE_MOST {
-        return None;
-    }
-    let words: Vec<&[u8]> = line.split(|byte| *byte == b' ').collect();
-    let rest = &words[1..];
-    let command = match (words[0], rest.len()) {
-        (b"lend", 2) => {
-            let place = place(rest[0])?;
-            Command::Lend(place, up_to(rest[1], HELD[place as usize] as u64)? as usize)
-        }
-        (b"put", 3) => put(rest)?,
-        (b"fill", 1) => Command::Fill(payload(rest[0])?),
-        (b"record", 15) => Command::Place(record(rest)?),
-        (b"show", 0) => Command::Show,
-        _ => Command::Make(call(words[0], rest)?),
-    };
-    Some(command)
-}
-
-fn put(words: &[&[u8]]) -> Option<Command> {
-    let place = place(words[0])?;
-    let index = up_to(words[1], HELD[place as usize] as u64 - 1)? as usize;
-    let value = match place {
-        Place::Table | Place::Log => number(words[2])?,
-        _ => up_to(words[2], 255)?,
-    };
-    Some(Command::Put(place, index, value))
-}
-
-fn call(name: &[u8], w: &[&[u8]]) -> Option<Call> {
-    match (name, w.len()) {
-        (b"open", 3) => Some(Call::Open {
-            revision: number(w[0])?,
-            serial: number(w[1])?,
-            payload: payload(w[2])?,
-        }),
-        (b"begin", 3) => begin(false, w),
-        (b"begin-structural", 3) => begin(true, w),
-        (b"ask-structure", 0) => Some(Call::AskStructure),
-        (b"ask-update", 0) => Some(Call::AskUpdate),
-        (b"ask-rollback", 0) => Some(Call::AskRollback),
-        (b"report-structure", 5) | (b"report-update", 4) | (b"report-rollback", 4) => {
-            report(name, w)
-        }
-        (b"edit", 2) => {
-            Some(Call::Edit { candidate: payload(w[0])?, recovery: payload(w[1])? })
-        }
-        (b"commit", 0) => Some(Call::Commit),
-        (b"recover", 1) => Some(Call::Recover { length: number(w[0])? }),
-        (b"recover-retained", 0) => Some(Call::RecoverRetained),
-        (b"refresh", 1) => Some(Call::Refresh { length: number(w[0])? }),
-        (b"stamp", 1) => Some(Call::Stamp { domain: number(w[0])? }),
-        (b"check", 3) => Some(Call::Check {
-            domain: number(w[0])?,
-            stamp: (number(w[1])?, number(w[2])?),
-        }),
-        (b"link", 2) => Some(Call::Link { id: number(w[0])?, domain: flag(w[1])? }),
-        (b"initialize", 1) => Some(Call::Initialize { id: number(w[0])? }),
-        (b"cancel", 1) => Some(Call::Cancel { id: number(w[0])? }),
-        _ => None,
-    }
-}
-
-fn begin(structural: bool, w: &[&[u8]]) -> Option<Call> {
-    let (candidate, recovery) = (payload(w[0])?, payload(w[1])?);
-    Some(Call::Begin { structural, candidate, recovery, pairs: pairs(w[2])? })
-}
-
-fn report(name: &[u8], w: &[&[u8]]) -> Option<Call> {
-    let ticket = number(w[0])?;
-    let code = number(w[2])?;
-    let outcome = match up_to(w[1], 2)? {
-        0 => Outcome::Waiting,
-        1 => Outcome::Failed(code),
-        _ => Outcome::Done,
-    };
-    if name == b"report-structure" {
-        let (candidate, recovery) = (payload(w[3])?, payload(w[4])?);
-        return Some(Call::ReportStructure { ticket, outcome, candidate, recovery });
-    }
-    let payload = number(w[3])?;
-    if name == b"report-update" {
-        Some(Call::ReportUpdate { ticket, outcome, payload })
-    } else {
-        Some(Call::ReportRollback { ticket, outcome, payload })
-    }
-}
-
-fn record(w: &[&[u8]]) -> Option<Record> {
-    let number_of_ticket = number(w[14])?;
-    let live = match up_to(w[13], 3)? {
-        0 if number_of_ticket == 0 => None,
-        0 => return None,
-        1 => Some((Kind::Structure, number_of_ticket)),
-        2 => Some((Kind::Update, number_of_ticket)),
-        _ => Some((Kind::Rollback, number_of_ticket)),
-    };
-    Some(Record {
-        revision: number(w[0])?,
-        serial: number(w[1])?,
-        accepted: number(w[2])?,
-        candidate: number(w[3])?,
-        recovery: number(w[4])?,
-        staged: flag(w[5])?,
-        phase: number(w[6])?,
-        forward: number(w[7])?,
-        back: number(w[8])?,
-        entries: number(w[9])?,
-        applied: number(w[10])?,
-        attempted: number(w[11])?,
-        restoring: flag(w[12])?,
-        live,
-    })
-}
-
-fn place(word: &[u8]) -> Option<Place> {
-    Some(match word {
-        b"a" => Place::Accepted,
-        b"c" => Place::Candidate,
-        b"r" => Place::Recovery,
-        b"x" => Place::Exchange,
-        b"t" => Place::Table,
-        b"l" => Place::Log,
-        b"g" => Place::Groups,
-        b"s" => Place::Status,
-        _ => return None,
-    })
-}
-
-/// One or more digits, leading zeros allowed, up to the u64 maximum.
-fn number(word: &[u8]) -> Option<u64> {
-    if word.is_empty() {
-        return None;
-    }
-    let mut value: u64 = 0;
-    for byte in word {
-        if !byte.is_ascii_digit() {
-            return None;
-        }
-        value = value.checked_mul(10)?.checked_add(u64::from(byte - b'0'))?;
-    }
-    Some(value)
-}
-
-fn up_to(word: &[u8], most: u64) -> Option<u64> {
-    number(word).filter(|value| *value <= most)
-}
-
-fn flag(word: &[u8]) -> Option<bool> {
-    up_to(word, 1).map(|value| value == 1)
-}
-
-/// Two numbers parted by one colon.
-fn two(word: &[u8], most: u64) -> Option<(usize, u64)> {
-    let colon = word.iter().position(|byte| *byte == b':')?;
-    let first = up_to(&word[..colon], most)?;
-    let second = up_to(&word[colon + 1..], SEED_MOST)?;
-    Some((first as usize, second))
-}
-
-fn payload(word: &[u8]) -> Option<Vec<u8>> {
-    let (length, seed) = two(word, HELD[0] as u64)?;
-    Some((0..length as u64).map(|i| ((seed + i) % 251) as u8).collect())
-}
-
-fn pairs(word: &[u8]) -> Option<Vec<u64>> {
-    let (count, seed) = two(word, HELD[4] as u64)?;
-    Some((0..count as u64).map(|i| seed + i).collect())
 }

@@ -2,7 +2,7 @@
 //!
 //! Written from document 01 alone.
 
-use crate::model::Answer;
+use crate::script::Made;
 use std::collections::BTreeMap;
 
 /// Each call with the answers document 01 allows it. Checking a stamp answers
@@ -34,24 +34,35 @@ const COLUMNS: [&str; 21] = [
     "21", "22", "23", "24",
 ];
 
-pub struct Tally(BTreeMap<(&'static str, String), u64>);
+/// Calls by answers, and calls on a whole record by its phase.
+pub struct Tally {
+    cells: BTreeMap<(&'static str, String), u64>,
+    phases: [u64; 14],
+}
 
 impl Tally {
     pub fn new() -> Tally {
-        Tally(BTreeMap::new())
+        Tally { cells: BTreeMap::new(), phases: [0; 14] }
     }
 
-    pub fn count(&mut self, name: &'static str, answer: &Answer) {
-        let column = match (name, answer.number) {
-            ("check", 0) if answer.values == [1] => "yes".to_string(),
+    pub fn count(&mut self, made: &Made) {
+        let column = match (made.name, made.answer.number) {
+            ("check", 0) if made.answer.values == [1] => "yes".to_string(),
             ("check", 0) => "no".to_string(),
             (_, number) => number.to_string(),
         };
-        *self.0.entry((name, column)).or_insert(0) += 1;
+        *self.cells.entry((made.name, column)).or_insert(0) += 1;
+        if let Some(phase) = made.phase {
+            self.phases[phase as usize] += 1;
+        }
+    }
+
+    pub fn calls(&self) -> u64 {
+        self.cells.values().sum()
     }
 
     fn at(&self, name: &'static str, column: &str) -> u64 {
-        self.0.get(&(name, column.to_string())).copied().unwrap_or(0)
+        self.cells.get(&(name, column.to_string())).copied().unwrap_or(0)
     }
 
     /// The allowed cells that are empty, and the filled ones not allowed.
@@ -87,6 +98,8 @@ impl Tally {
             }
             text.push('\n');
         }
+        let phases: Vec<String> = self.phases.iter().map(|count| count.to_string()).collect();
+        text.push_str(&format!("calls in phases 0 to 13: {}\n", phases.join(", ")));
         let (empty, strange) = self.faults();
         text.push_str(&format!("allowed and empty: {}\n", listed(&empty)));
         text.push_str(&format!("filled and not allowed: {}\n", listed(&strange)));

@@ -2,10 +2,43 @@
 // not fit is left alone.
 ghost use mathlib.Core.Path.{_≡_};
 ghost use mathlib.Core.List.{_∷_, []};
+ghost use Prim.Native.Nat.{_+_, _≤_};
+ghost use lib.ListN.{length, take, drop};
+ghost use lib.Seq.{paste};
 ghost use Rattle.areas.specs.Areas.{copied, exchanged};
 
 // The bytes of an accepted, candidate, recovery or exchange area, and the longest payload.
 pub const SIZE: usize = 4096;
+
+// So many bytes are copied at a time. All of them are read before the first is written, so that no turn looks whether the two
+// slices overlap.
+const BLOCK: usize = 128;
+
+// The block of src that starts at a place.
+fn block_at(src: &[u8], at: usize) -> [u8; BLOCK]
+    requires { ⌜ at + 128 ≤ length (now src) ⌝ }
+    ensures { λ b. ⌜ b ≡ take 128 (drop at (now (src .entry))) ⌝ }
+{
+    let mut block = [0; BLOCK];
+    let mut j = 0;
+    while j < BLOCK {
+        block[j] = src[at + j];
+        j += 1;
+    }
+    block
+}
+
+// A block over the bytes of dst that start at a place.
+fn put_block(dst: &mut [u8], at: usize, block: [u8; BLOCK])
+    requires { ⌜ at + 128 ≤ length (now dst) ⌝ }
+    ensures { λ _. ⌜ now (dst .exit) ≡ paste (now (dst .entry)) at block 128 ⌝ }
+{
+    let mut j = 0;
+    while j < BLOCK {
+        dst[at + j] = block[j];
+        j += 1;
+    }
+}
 
 // All bytes of src over the first of dst, where they fit.
 pub fn copy_bytes(dst: &mut [u8], src: &[u8])
@@ -16,6 +49,11 @@ pub fn copy_bytes(dst: &mut [u8], src: &[u8])
         return;
     }
     let mut i = 0;
+    while BLOCK <= n - i {
+        let block = block_at(src, i);
+        put_block(dst, i, block);
+        i += BLOCK;
+    }
     while i < n {
         dst[i] = src[i];
         i += 1;

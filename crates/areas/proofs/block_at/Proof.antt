@@ -1,0 +1,58 @@
+-- `areas::block_at` meets its contract: after j turns the first j bytes are read. Assumes nothing.
+use mathlib.Core.Path.{_≡_, refl}
+use Prim.Native.Nat.{_-_, _≤_}
+use native.Mathlib.Omega.{arith}
+use lib.ListN.{length}
+use borrow.Author.Needs.{needs}
+use Rattle.areas.proofs.Blocks.{Reading, read-none, read-more, read-all}
+use Rattle.areas.proofs.block_at.Statement.{statement}
+use Rattle.areas.proofs.block_at.Tie as tie
+
+abbrev Inv-loop : tie.InvT-loop
+Inv-loop src at block₀ j₀ block j = (j ≤ 128) × (length block₀ ≡ 128) × Reading src at block₀ block j
+
+abbrev μ-loop : tie.MeasureT-loop
+μ-loop src at block₀ j₀ block j = 128 - j
+
+loop-holds : tie.Need-loop-holds Inv-loop μ-loop
+loop-holds c = (omega arith, refl, read-none _ _ _)
+
+add-block : tie.Need-add-block Inv-loop μ-loop
+add-block c = search needs
+
+shared-slice-read-block : tie.Need-shared-slice-read-block Inv-loop μ-loop
+shared-slice-read-block c = search needs
+
+array-write-block : tie.Need-array-write-block Inv-loop μ-loop
+array-write-block c = search needs
+
+add-j : tie.Need-add-j Inv-loop μ-loop
+add-j c = search needs
+
+loop-less : tie.Need-loop-less Inv-loop μ-loop
+loop-less c = search needs
+
+loop-again : tie.Need-loop-again Inv-loop μ-loop
+loop-again c =
+    let l = c .before .before .loop in
+    (omega arith, l .inv .1, read-more (l .inv .2) (omega arith) (omega arith))
+
+returns : tie.Need-returns Inv-loop μ-loop
+returns c =
+    let l = c .before .loop in
+    read-all (l .inv .2) (omega arith) (l .inv .1)
+
+pub block-at-spec : {M : Type 1} → statement M
+block-at-spec =
+    tie.close
+    (tie.spec
+    Inv-loop
+    μ-loop
+    loop-holds
+    add-block
+    shared-slice-read-block
+    array-write-block
+    add-j
+    loop-less
+    loop-again
+    returns)

@@ -1,0 +1,60 @@
+-- `areas::put_block` meets its contract: after j turns the first j bytes are put. Assumes nothing.
+use Prim.Native.Nat.{_-_, _≤_}
+use native.Mathlib.Omega.{arith}
+use borrow.Author.Needs.{needs}
+use Rattle.areas.proofs.Blocks.{Putting, put-none, put-more, put-all}
+use Rattle.areas.proofs.put_block.Statement.{statement}
+use Rattle.areas.proofs.put_block.Tie as tie
+
+abbrev Inv-loop : tie.InvT-loop
+Inv-loop dst₀ at block j₀ dst j = (j ≤ 128) × Putting dst₀ at block dst j
+
+abbrev μ-loop : tie.MeasureT-loop
+μ-loop dst₀ at block j₀ dst j = 128 - j
+
+loop-holds : tie.Need-loop-holds Inv-loop μ-loop
+loop-holds c = (omega arith, put-none _ _ _)
+
+array-read-dst : tie.Need-array-read-dst Inv-loop μ-loop
+array-read-dst c = search needs
+
+add-dst : tie.Need-add-dst Inv-loop μ-loop
+add-dst c = search needs
+
+slice-write-dst : tie.Need-slice-write-dst Inv-loop μ-loop
+slice-write-dst c = search needs
+
+add-j : tie.Need-add-j Inv-loop μ-loop
+add-j c = search needs
+
+loop-less : tie.Need-loop-less Inv-loop μ-loop
+loop-less c = search needs
+
+loop-again : tie.Need-loop-again Inv-loop μ-loop
+loop-again c =
+    let l = c .before .loop in
+    (omega arith, put-more (l .inv .1) (omega arith) (omega arith))
+
+same-length : tie.Need-same-length Inv-loop μ-loop
+same-length c = search needs
+
+returns : tie.Need-returns Inv-loop μ-loop
+returns c =
+    let l = c .before .loop in
+    put-all {n = 128} (l .inv .1) (omega arith)
+
+pub put-block-spec : {M : Type 1} → statement M
+put-block-spec =
+    tie.close
+    (tie.spec
+    Inv-loop
+    μ-loop
+    loop-holds
+    array-read-dst
+    add-dst
+    slice-write-dst
+    add-j
+    loop-less
+    loop-again
+    same-length
+    returns)

@@ -1,0 +1,71 @@
+// The driver: plays a script of calls over the proved libraries. It reads the script from standard input, a command to a line,
+// makes each call in turn on what it holds, and writes the answers to standard output.
+mod answers;
+mod bring;
+mod commands;
+mod held;
+mod input;
+mod output;
+mod plain;
+mod play;
+mod show;
+mod steps;
+mod templates;
+mod whole;
+
+use libc::STDERR_FILENO;
+use libc::STDOUT_FILENO;
+
+// How many bytes of each area, words of the table and of the log, and bytes of the groups and of the status the driver holds.
+const AREA: usize = 5000;
+
+const TABLE: usize = 2200;
+
+const LOG: usize = 5000;
+
+const MARKS: usize = 300;
+
+// The most numbers that a command has.
+const NUMBERS: usize = 15;
+
+fn print_usage(to: i32) {
+    io::write_all(
+        to,
+        b"usage: drive < SCRIPT    plays a script, a command to a line, and writes the answers
+       drive help        says this
+A payload P is LENGTH:SEED, words W are COUNT:SEED; an area B is a, c, r, x, t, l, g or s; # starts a comment.
+  lend B N | put B INDEX VALUE | fill P | record and its 15 numbers | show
+  open REVISION SERIAL P | begin P P W | begin-structural P P W | edit P P
+  ask-structure | ask-update | ask-rollback | report-structure TICKET OUTCOME CODE P P
+  report-update TICKET OUTCOME CODE PAYLOAD | report-rollback TICKET OUTCOME CODE PAYLOAD
+  commit | recover LENGTH | recover-retained | refresh LENGTH
+  stamp DOMAIN | check DOMAIN D R | link ID D | initialize ID | cancel ID
+",
+    );
+}
+
+// Whether the one argument is `help`.
+fn asks_for_help() -> bool {
+    let mut word = [0u8; 5];
+    let length = os::arg(1, &mut word);
+    if os::arg_count() != 2 {
+        return false;
+    }
+    if length != 4 {
+        return false;
+    }
+    (word[0] == b'h') & (word[1] == b'e') & (word[2] == b'l') & (word[3] == b'p')
+}
+
+fn main() {
+    if os::arg_count() < 2 {
+        play::play();
+        return;
+    }
+    if asks_for_help() {
+        print_usage(STDOUT_FILENO);
+        return;
+    }
+    io::write_all(STDERR_FILENO, b"drive: it takes no argument but help\n");
+    print_usage(STDERR_FILENO);
+}

@@ -1,0 +1,118 @@
+//! Episodes of a made script: chains, and records put in place, whole,
+//! damaged, at the last revision and at the last serials.
+//!
+//! Written from document 01 and the page on the driver's script alone.
+
+use super::Maker;
+use crate::model::{Record, TOP};
+use crate::text::record_words;
+use std::io;
+
+impl Maker<'_> {
+    pub(super) fn opening(&mut self) -> String {
+        let (revision, serial) = (self.dice.any(), self.dice.any());
+        format!("open {} {} {}", revision, serial, self.dice.payload())
+    }
+
+    pub(super) fn open(&mut self) -> io::Result<()> {
+        let line = self.opening();
+        self.say(&line)
+    }
+
+    /// A chain from an opening, with or without a log.
+    pub(super) fn chain(&mut self) -> io::Result<()> {
+        let log = match self.dice.below(10) {
+            0..=3 => 0,
+            4 => self.wrong_log(),
+            _ => self.right_log(),
+        };
+        self.say(&format!("lend l {}", log))?;
+        self.open()?;
+        let count = 5 + self.dice.below(60);
+        self.run(count)
+    }
+
+    pub(super) fn place(&mut self, record: &Record) -> io::Result<()> {
+        self.say(&format!("record {}", record_words(record)))
+    }
+
+    /// A whole record put in place, then a few calls.
+    pub(super) fn placed(&mut self) -> io::Result<()> {
+        let record = self.dice.whole_record();
+        self.place(&record)?;
+        let count = 1 + self.dice.below(8);
+        self.run(count)
+    }
+
+    /// A record with one or two fields changed.
+    pub(super) fn damaged(&mut self) -> io::Result<()> {
+        for _ in 0..1 + self.dice.below(4) {
+            let mut record = self.dice.whole_record();
+            self.dice.mutate(&mut record);
+            if self.dice.chance(30) {
+                self.dice.mutate(&mut record);
+            }
+            self.place(&record)?;
+            for _ in 0..1 + self.dice.below(4) {
+                let line = self.any_call();
+                self.say(&line)?;
+            }
+        }
+        let record = self.dice.whole_record();
+        self.place(&record)
+    }
+
+    /// One thing lent in a wrong size, maybe with a damaged record or log.
+    pub(super) fn wrong_size(&mut self) -> io::Result<()> {
+        let mut record = self.dice.whole_record();
+        if self.dice.chance(25) {
+            self.dice.mutate(&mut record);
+        }
+        self.place(&record)?;
+        let place = self.dice.pick(&["a", "c", "r", "x", "t", "l"]);
+        let size = match place {
+            "t" => self.dice.pick(&[0, 1, 126, 127, 129, 130, 2200]),
+            "l" => self.wrong_log(),
+            _ => self.dice.pick(&[0, 1, 4095, 4097, 5000]),
+        };
+        self.say(&format!("lend {} {}", place, size))?;
+        if self.dice.chance(20) {
+            self.open()?;
+        }
+        for _ in 0..3 + self.dice.below(10) {
+            let line = if self.dice.chance(40) { self.sensible() } else { self.any_call() };
+            self.say(&line)?;
+        }
+        if place == "l" {
+            let log = if self.dice.chance(50) { 0 } else { self.right_log() };
+            self.say(&format!("lend l {}", log))?;
+            self.open()?;
+        }
+        Ok(())
+    }
+
+    /// Idle or staged at and just below the highest revision.
+    pub(super) fn top_revision(&mut self) -> io::Result<()> {
+        let mut record = self.dice.whole_record();
+        record.revision = TOP - u64::from(record.staged);
+        if self.dice.chance(50) {
+            record = Record::opened(TOP, self.dice.any(), self.dice.length());
+        }
+        self.place(&record)?;
+        let structural = if self.dice.chance(50) { "begin" } else { "begin-structural" };
+        let line = self.line_of(structural);
+        self.say(&line)?;
+        let count = 2 + self.dice.below(5);
+        self.run(count)
+    }
+
+    /// The last serials, one after the other.
+    pub(super) fn nearly_worn(&mut self) -> io::Result<()> {
+        let mut record = self.dice.whole_record();
+        record.serial = TOP - self.dice.below(3);
+        record.live = record.live.map(|(kind, _)| (kind, record.serial));
+        self.place(&record)?;
+        let count = 3 + self.dice.below(6);
+        self.run(count)
+    }
+}

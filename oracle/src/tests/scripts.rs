@@ -1,0 +1,149 @@
+//! The log's example, the example of the page on the driver's script, status
+//! calls, how bad lines are taken, and the scripts that are made.
+//!
+//! Written from document 01 and the page on the driver's script alone.
+
+use super::{holds, play, play_bytes};
+use crate::{boundary, command, driver, make, script, table};
+
+#[test]
+fn the_log_of_the_example() {
+    let mut driver = driver::Driver::new();
+    for line in ["lend l 16", "open 0 0 0:0", "begin 0:0 0:0 0:0", "commit"] {
+        driver.obey(command::command(line.as_bytes()).expect("a command"));
+    }
+    let wanted = [2, 4, 3, 0, 1, 0, 0, 0, 9, 0, 0, 1, 0, 0, 0, 0];
+    assert_eq!(driver.log[..16], wanted);
+}
+
+#[test]
+fn a_full_log_and_the_order_of_refusals() {
+    holds(&[
+        ("lend l 8", ""),
+        ("open 0 0 0:0", "0"),
+        ("ask-structure", "4"),
+        ("ask-structure", "12"),
+        ("ask-rollback", "12"),
+        ("begin 4097:0 0:0 0:0", "8"),
+        ("begin 0:0 0:0 0:0", "12"),
+        ("commit", "2"),
+        ("report-update 0 2 0 0", "10"),
+        ("put l 3 1", ""),
+        ("ask-update", "7"),
+        ("stamp 1", "0 1 0"),
+        ("lend c 4095", ""),
+        ("commit", "6"),
+        ("lend l 10", ""),
+        ("ask-update", "6"),
+        ("edit 1:1 1:1", "6"),
+        ("refresh 1", "6"),
+    ]);
+}
+
+#[test]
+fn the_example_of_the_page() {
+    let lines = ["lend l 16", "open 0 0 3:1", "begin 2:5 2:9 0:0", "commit", "show"];
+    let said = play(&lines);
+    assert_eq!(said[..3], ["0", "0", "0 3 2 0"]);
+    assert_eq!(said[3], "record 1 0 2 0 0 0 0 0 0 0 0 0 0 0 0");
+    let starts: Vec<&str> = said[4..].iter().map(|s| s.split(' ').next().unwrap()).collect();
+    assert_eq!(starts, ["bytes", "table", "log", "status"]);
+}
+
+#[test]
+fn status_calls() {
+    holds(&[
+        ("link 0 1", "13"),
+        ("link 1 1", "13"),
+        ("put g 1 3", ""),
+        ("link 1 0", "13"),
+        ("initialize 1", "13"),
+        ("link 1 1", "0"),
+        ("link 1 1", "13"),
+        ("cancel 1", "0"),
+        ("initialize 1", "0"),
+        ("put s 1 16", ""),
+        ("cancel 1", "7"),
+        ("cancel 64", "13"),
+        ("lend g 65", ""),
+        ("cancel 0", "6"),
+    ]);
+}
+
+#[test]
+fn bad_lines() {
+    let long = format!("stamp {:0>995}", 7);
+    let just = format!("stamp {:0>994}", 7);
+    let comment = format!("# {}", "x".repeat(5000));
+    let lines = [
+        "# comment",
+        "",
+        " stamp 1",
+        "stamp 1 ",
+        "stamp",
+        "stamp 1 2",
+        "stamp\t1",
+        "stamp 1\r",
+        "stamp -1",
+        "stamp 18446744073709551616",
+        "stamp 00018446744073709551615",
+        &long,
+        &just,
+        &comment,
+        "lend a 5001",
+        "put g 0 256",
+        "link 1 2",
+        "nothing",
+        "stamp 5",
+    ];
+    let wanted = [
+        "? 3",
+        "? 4",
+        "? 5",
+        "? 6",
+        "? 7",
+        "? 8",
+        "? 9",
+        "? 10",
+        "0 18446744073709551615 0",
+        "? 12",
+        "0 7 0",
+        "? 15",
+        "? 16",
+        "? 17",
+        "? 18",
+        "0 5 0",
+    ];
+    assert_eq!(play(&lines), wanted);
+    assert_eq!(play_bytes(b"stamp 1\n\n\nbad\n"), ["0 1 0", "? 4"]);
+    assert_eq!(play_bytes(b"\xff\n#\xff\nstamp 2"), ["? 1", "0 2 0"]);
+    assert!(play_bytes(b"").is_empty());
+}
+
+#[test]
+fn lines_across_small_buffers() {
+    let text = format!("stamp 1\n{}\nstamp 2", "y".repeat(3000));
+    let mut output = Vec::new();
+    let mut input = std::io::BufReader::with_capacity(3, text.as_bytes());
+    script::play(&mut input, &mut output).expect("playing into memory");
+    assert_eq!(output, b"0 1 0\n? 2\n0 2 0\n");
+}
+
+#[test]
+fn made_scripts_fill_every_cell() {
+    let mut tally = table::Tally::new();
+    let mut made = Vec::new();
+    make::make(1, 20_000, &mut made, &mut |made| tally.count(made)).unwrap();
+    let (empty, strange) = tally.faults();
+    assert_eq!((empty, strange), (vec![], vec![]), "{}", tally.text());
+    let mut again = Vec::new();
+    make::make(1, 20_000, &mut again, &mut |_| {}).unwrap();
+    assert!(made == again);
+}
+
+#[test]
+fn fixed_scripts_play() {
+    let mut text = Vec::new();
+    boundary::boundary(&mut text).unwrap();
+    assert!(play_bytes(&text).len() > 1000);
+}
