@@ -5,7 +5,7 @@ ghost use mathlib.Core.List.{_∷_, []};
 ghost use Prim.Native.Nat.{_+_, _≤_};
 ghost use lib.ListN.{length, take, drop};
 ghost use lib.Seq.{paste};
-ghost use Rattle.areas.specs.Areas.{copied, exchanged};
+ghost use Rattle.areas.specs.Areas.{blockSize, copied, exchanged};
 
 // The bytes of an accepted, candidate, recovery or exchange area, and the longest payload.
 pub const SIZE: usize = 4096;
@@ -16,8 +16,8 @@ const BLOCK: usize = 128;
 
 // The block of src that starts at a place.
 fn block_at(src: &[u8], at: usize) -> [u8; BLOCK]
-    requires { ⌜ at + 128 ≤ length (now src) ⌝ }
-    ensures { λ b. ⌜ b ≡ take 128 (drop at (now (src .entry))) ⌝ }
+    requires { ⌜ at + blockSize ≤ length (now src) ⌝ }
+    ensures { λ b. ⌜ b ≡ take blockSize (drop at (now (src .entry))) ⌝ }
 {
     let mut block = [0; BLOCK];
     let mut j = 0;
@@ -30,8 +30,8 @@ fn block_at(src: &[u8], at: usize) -> [u8; BLOCK]
 
 // A block over the bytes of dst that start at a place.
 fn put_block(dst: &mut [u8], at: usize, block: [u8; BLOCK])
-    requires { ⌜ at + 128 ≤ length (now dst) ⌝ }
-    ensures { λ _. ⌜ now (dst .exit) ≡ paste (now (dst .entry)) at block 128 ⌝ }
+    requires { ⌜ at + blockSize ≤ length (now dst) ⌝ }
+    ensures { λ _. ⌜ now (dst .exit) ≡ paste (now (dst .entry)) at block blockSize ⌝ }
 {
     let mut j = 0;
     while j < BLOCK {

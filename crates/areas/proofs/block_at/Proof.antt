@@ -7,12 +7,13 @@ use borrow.Author.Needs.{needs}
 use Rattle.areas.proofs.Blocks.{Reading, read-none, read-more, read-all}
 use Rattle.areas.proofs.block_at.Statement.{statement}
 use Rattle.areas.proofs.block_at.Tie as tie
+use Rattle.areas.specs.Areas.{blockSize}
 
 abbrev Inv-loop : tie.InvT-loop
-Inv-loop src at block₀ j₀ block j = (j ≤ 128) × (length block₀ ≡ 128) × Reading src at block₀ block j
+Inv-loop src at block₀ j₀ block j = (j ≤ blockSize) × (length block₀ ≡ blockSize) × Reading src at block₀ block j
 
 abbrev μ-loop : tie.MeasureT-loop
-μ-loop src at block₀ j₀ block j = 128 - j
+μ-loop src at block₀ j₀ block j = blockSize - j
 
 loop-holds : tie.Need-loop-holds Inv-loop μ-loop
 loop-holds c = (omega arith, refl, read-none _ _ _)

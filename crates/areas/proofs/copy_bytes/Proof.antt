@@ -5,7 +5,7 @@ use native.Mathlib.Omega.{arith}
 use lib.ListN.{length}
 use borrow.Author.Tests.{lt-ltb, le-ltb}
 use Rattle.choice.proofs.Picks.{yes, no}
-use Rattle.areas.specs.Areas.{copied}
+use Rattle.areas.specs.Areas.{blockSize, copied}
 use Rattle.areas.proofs.Over.{Copying, copy-none, copy-more, copy-all}
 use Rattle.areas.proofs.Blocks.{block-more, copy-again, copy-then}
 use borrow.Author.Needs.{needs}
@@ -50,7 +50,7 @@ loop-again : tie.Need-loop-again Inv-loop μ-loop Inv-loop2 μ-loop2
 loop-again c =
     let p = c .before .before in
     let b = p .before .before in
-    block-more 128 (b .before .before .loop .inv) (b .block-at .ensures) (p .put-block .ensures) (omega arith) (omega arith)
+    block-more blockSize (b .before .before .loop .inv) (b .block-at .ensures) (p .put-block .ensures) (omega arith) (omega arith)
 
 loop2-holds : tie.Need-loop2-holds Inv-loop μ-loop Inv-loop2 μ-loop2
 loop2-holds c = (omega arith, copy-again (c .before .loop .inv))

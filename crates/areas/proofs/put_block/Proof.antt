@@ -5,12 +5,13 @@ use borrow.Author.Needs.{needs}
 use Rattle.areas.proofs.Blocks.{Putting, put-none, put-more, put-all}
 use Rattle.areas.proofs.put_block.Statement.{statement}
 use Rattle.areas.proofs.put_block.Tie as tie
+use Rattle.areas.specs.Areas.{blockSize}
 
 abbrev Inv-loop : tie.InvT-loop
-Inv-loop dst₀ at block j₀ dst j = (j ≤ 128) × Putting dst₀ at block dst j
+Inv-loop dst₀ at block j₀ dst j = (j ≤ blockSize) × Putting dst₀ at block dst j
 
 abbrev μ-loop : tie.MeasureT-loop
-μ-loop dst₀ at block j₀ dst j = 128 - j
+μ-loop dst₀ at block j₀ dst j = blockSize - j
 
 loop-holds : tie.Need-loop-holds Inv-loop μ-loop
 loop-holds c = (omega arith, put-none _ _ _)
@@ -41,7 +42,7 @@ same-length c = search needs
 returns : tie.Need-returns Inv-loop μ-loop
 returns c =
     let l = c .before .loop in
-    put-all {n = 128} (l .inv .1) (omega arith)
+    put-all {n = blockSize} (l .inv .1) (omega arith)
 
 pub put-block-spec : {M : Type 1} → statement M
 put-block-spec =
