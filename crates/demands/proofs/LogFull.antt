@@ -12,8 +12,9 @@ use Rattle.record.specs.Leaves.{Leaves, leaves}
 use Rattle.record.specs.declared.Record.{Record}
 use Rattle.record.specs.declared.Refusal.the-variants.{LogFull}
 use Rattle.log.specs.Log.{full}
-use Rattle.recording.specs.Recorded.{recorded, logOf}
-use Rattle.recording.proofs.Noting.{full-changes-nothing}
+use Rattle.recording.specs.Recorded.{recorded}
+use Rattle.events.specs.Entries.{logOf}
+use Rattle.events.proofs.Noting.{full-changes-nothing}
 use Rattle.demands.specs.Calls.{Call, stepWith, step}
 use Rattle.demands.specs.Chains.{hears}
 use Rattle.demands.specs.Logged.{kindOf, written, loggedStep, logged}

@@ -17,7 +17,8 @@ use Rattle.staging.specs.Beginning.{firstPhase, begun, beginOwn}
 use Rattle.settling.specs.Ending.{settled, commitOwn}
 use Rattle.phases.specs.Phases.{hasSuccessor}
 use Rattle.log.specs.Log.{logSized, headSound, sound, full, appended, blank}
-use Rattle.recording.specs.Recorded.{withLog, callWritten, recorded, logOf}
+use Rattle.recording.specs.Recorded.{withLog, callWritten, recorded}
+use Rattle.events.specs.Entries.{logOf}
 use Rattle.logged_begins.specs.Begins.{openRecorded, beginKind, beginRecorded}
 use Rattle.logged_ends.specs.Ends.{commitRecorded}
 

@@ -9,10 +9,9 @@ use native.Mathlib.Omega.{arith}
 use Rattle.record.specs.Answers.{Told}
 use Rattle.record.specs.declared.Record.{Record}
 use Rattle.log.specs.Log.{logSized, count, room, sound}
-use Rattle.log.specs.Entries.{Entry, entries}
+use Rattle.events.specs.Entries.{Entry, entries, logOf}
 use Rattle.log.proofs.Room.{head-of}
-use Rattle.log.proofs.Entries.{entries-length}
-use Rattle.recording.specs.Recorded.{logOf}
+use Rattle.events.proofs.Entries.{entries-length}
 use Rattle.demands.specs.Calls.{Call, step}
 use Rattle.demands.specs.Chains.{Heard, hears, after, heard}
 use Rattle.demands.specs.Logged.{loggedStep, logged, events}

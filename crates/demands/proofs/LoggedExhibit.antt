@@ -24,8 +24,8 @@ use Rattle.reporting.specs.Reports.{behind, reportGate, reported}
 use Rattle.settling.specs.Ending.{settled, commitOwn}
 use Rattle.stamping.specs.Stamping.{stampStep}
 use Rattle.log.specs.Log.{logSized, count, room, headSound, sound, full, appended, blank}
-use Rattle.log.specs.Entries.{entry}
-use Rattle.recording.specs.Recorded.{stepWritten, callWritten, recorded, noted}
+use Rattle.events.specs.Entries.{entry, noted}
+use Rattle.recording.specs.Recorded.{stepWritten, callWritten, recorded}
 use Rattle.demands.specs.Calls.{Call, stepWith, step}
 use Rattle.demands.specs.Calls.Call.{begin, askStructure, askUpdate, reportUpdate, edit, commit, stamp}
 use Rattle.demands.specs.Chains.{Heard}

@@ -14,10 +14,10 @@ use Rattle.record.specs.Leaves.{Leaves, leaves}
 use Rattle.staging.specs.Opening.{openStep}
 use Rattle.begins.specs.Opens.{openLeaves}
 use Rattle.log.specs.Log.{logSized, count, room, roomOf, sound, blank}
-use Rattle.log.specs.Entries.{Entry, entries}
-use Rattle.log.proofs.Soundness.{blank-length, blank-count, blank-room, blank-sound}
-use Rattle.log.proofs.Entries.{none-opened}
-use Rattle.recording.specs.Recorded.{withLog, logOf}
+use Rattle.events.specs.Entries.{Entry, entries, logOf}
+use Rattle.events.proofs.Soundness.{blank-length, blank-count, blank-room, blank-sound}
+use Rattle.events.proofs.Entries.{none-opened}
+use Rattle.recording.specs.Recorded.{withLog}
 use Rattle.logged_begins.specs.Begins.{openRecorded}
 use Rattle.demands.specs.Calls.{Call}
 use Rattle.demands.specs.Logged.{logged, events}

@@ -13,11 +13,11 @@ use Rattle.record.specs.Answers.{Told}
 use Rattle.record.specs.Leaves.{Leaves, leaves}
 use Rattle.record.specs.declared.Record.{Record}
 use Rattle.log.specs.Log.{logSized, count, room, sound, full}
-use Rattle.log.specs.Entries.{Entry, entries}
+use Rattle.events.specs.Entries.{Entry, entries, logOf, noted}
 use Rattle.log.proofs.Room.{not-full}
-use Rattle.recording.specs.Recorded.{recorded, logOf, noted}
-use Rattle.recording.proofs.Laws.{stays-sound, same-length}
-use Rattle.recording.proofs.Noting.{noted-one, noted-none, same-told, noted-last}
+use Rattle.recording.specs.Recorded.{recorded}
+use Rattle.events.proofs.Laws.{stays-sound, same-length}
+use Rattle.events.proofs.Noting.{noted-one, noted-none, same-told, noted-last}
 use Rattle.demands.specs.Calls.{Call, stepWith, step}
 use Rattle.demands.specs.Logged.{noKind, kindOf, written, loggedStep, writtenAs}
 

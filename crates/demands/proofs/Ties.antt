@@ -15,7 +15,7 @@ use Rattle.record.specs.declared.Record.{Record}
 use Rattle.record.specs.declared.Outcome.{Outcome}
 use Rattle.recording.specs.Recorded.{withLog, recorded}
 use Rattle.recording.specs.Asks.{askStructureRecorded, askUpdateRecorded, askRollbackRecorded}
-use Rattle.recording.proofs.Noting.{Agrees, log-decides}
+use Rattle.events.proofs.Noting.{Agrees, log-decides}
 use Rattle.logged_begins.specs.Begins.{beginKind, beginRecorded}
 use Rattle.logged_reports.specs.Reports.{reportStructureRecorded, reportUpdateRecorded, reportRollbackRecorded}
 use Rattle.logged_ends.specs.Ends.{commitRecorded, recoverRecorded, recoverRetainedRecorded, refreshRecorded}
