@@ -1,0 +1,3 @@
+pub mod Splitting
+pub mod Updates
+pub mod Rollbacks

@@ -1,0 +1,31 @@
+-- What clauses of several functions say alike: wholeness, and what a call keeps. Assumes nothing.
+use Prim.Native.Nat.{ℕ}
+use mathlib.Core.Path.{_≡_}
+use mathlib.Core.Bool.{Bool, true, _&&_}
+use lib.Dec.{leb}
+use Rattle.record.specs.Answers.{Told}
+use Rattle.record.specs.declared.Record.{Record}
+use Rattle.wholeness.specs.Whole.{whole}
+
+-- "Iff clauses gain the refusals 6 to 12; the others hold where none of these is given."
+unfoldable pub gained : ℕ → Bool
+gained n = leb 6 n && leb n 12
+
+-- `staged()`: none, or the two payloads, here by their lengths
+pub record SameStaged (r s : Record) : Type 0 where
+  pub mark : s .staged ≡ r .staged
+  pub candidate : s .candidate ≡ r .candidate
+  pub recovery : s .recovery ≡ r .recovery
+
+-- `batch()`, the table aside
+pub record SameBatch (r s : Record) : Type 0 where
+  pub entries : s .entries ≡ r .entries
+  pub applied : s .applied ≡ r .applied
+  pub attempted : s .attempted ≡ r .attempted
+  pub restoring : s .restoring ≡ r .restoring
+
+-- C89, C100, C171: `new.wf()`; C90, C101, C172: `new.accepted() == old.accepted()`; C91, C102, C173: `new.version() == old.version()`
+pub record Framed (r : Record) (t : Told) : Type 0 where
+  pub wf : whole (t .state) ≡ true
+  pub accepted : t .state .accepted ≡ r .accepted
+  pub version : t .state .revision ≡ r .revision
