@@ -1,3 +1,5 @@
 pub mod Splitting
 pub mod Updates
 pub mod Rollbacks
+pub mod Onward
+pub mod Structures

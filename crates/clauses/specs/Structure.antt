@@ -1,14 +1,14 @@
 -- The clauses of `poll_structure` and `structure_result`, of an asking and of a report alike: t is what it tells of the record r.
 -- Assumes nothing.
-use Prim.Native.Nat.{_+_}
+use Prim.Native.Nat.{_+_, _≤_, _<_}
 use mathlib.Core.Path.{_≡_}
 use mathlib.Core.Bool.{true, false}
 use mathlib.Core.Logic.{_≢_}
-use Rattle.phases.specs.Phases.{none, hasSuccessor, successor, boundary}
+use Rattle.phases.specs.Phases.{none, adopt, hasSuccessor, successor, boundary}
 use Rattle.phases.specs.declared.Next.the-variants.{To}
 use Rattle.record.specs.Answers.{Told}
 use Rattle.record.specs.declared.Record.{Record}
-use Rattle.clauses.specs.Keeping.{gained, SameBatch, Framed}
+use Rattle.clauses.specs.Keeping.{SameBatch, Framed}
 use Rattle.clauses.specs.Polls.{unfinished}
 
 -- what a changed phase and changed steps imply
@@ -47,3 +47,15 @@ pub record StructureClauses (r : Record) (t : Told) : Type 0 where
   pub stepping : Stepping r (t .state)
   -- `Ready(Ok(true))` implies that the new phase is `Updates`, `Ready` or `Recovered`
   pub c187 : t .number ≡ 24 → boundary (t .state .phase .number) ≡ true
+
+-- document 01: "Done goes to the successor, raises forward (phases 1 to 6) or back (9 to 12)", and all else but lengths and ticket stays
+pub record Advances (r s : Record) : Type 0 where
+  pub phase : s .phase .number ≡ r .phase .number + 1
+  pub forward : r .phase .number ≤ adopt → s .forward ≡ r .forward + 1
+  pub forward-stays : adopt < r .phase .number → s .forward ≡ r .forward
+  pub back : adopt < r .phase .number → s .back ≡ r .back + 1
+  pub back-stays : r .phase .number ≤ adopt → s .back ≡ r .back
+  pub batch : SameBatch r s
+  pub staged : s .staged ≡ r .staged
+  pub accepted : s .accepted ≡ r .accepted
+  pub version : s .revision ≡ r .revision
