@@ -3,3 +3,7 @@ pub mod Updates
 pub mod Rollbacks
 pub mod Onward
 pub mod Structures
+pub mod Stagings
+pub mod Endings
+pub mod Refreshes
+pub mod Lendings

@@ -1,3 +1,6 @@
 pub mod Keeping
 pub mod Polls
 pub mod Structure
+pub mod Staging
+pub mod Ending
+pub mod Lending
