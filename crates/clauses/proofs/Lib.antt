@@ -7,3 +7,8 @@ pub mod Stagings
 pub mod Endings
 pub mod Refreshes
 pub mod Lendings
+pub mod Storing
+pub mod Areas
+pub mod Gaps
+pub mod Answers
+pub mod Tables

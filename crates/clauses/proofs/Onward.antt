@@ -5,6 +5,7 @@ use mathlib.Core.Bool.{Bool, true, false}
 use mathlib.Core.Logic.{_≢_}
 use native.Mathlib.Omega.{arith}
 use lib.Dec.{eqb}
+use borrow.Author.Tests.{eqb-true}
 use Rattle.choice.specs.Pick.{pick, _or_}
 use Rattle.choice.proofs.Tests.{either, neither}
 use Rattle.phases.specs.Phases.{hasSuccessor, successor, boundary}
@@ -25,6 +26,7 @@ use Rattle.demands.proofs.Wholeness.{left, successor-test}
 use Rattle.demands.proofs.Tickets.{onStructure}
 use Rattle.demands.proofs.Moves.{goes-up, goes-down}
 use Rattle.clauses.specs.Structure.{Stepping, Advances}
+use Rattle.clauses.proofs.Splitting.{nope}
 
 -- a phase is staged
 pub calm-staged : {s : Bool} {v p n : ℕ} {l : Live} → Calm s v p n l → p ≢ 0 → s ≡ true
@@ -42,6 +44,17 @@ no-successor p e s =
 pub at-boundary : (p : ℕ) → eqb p 7 or eqb p 13 ≡ true → boundary p ≡ true
 unfolding boundary
 at-boundary p e = either e (λ i. left _ (right _ i)) (λ i. right _ i)
+
+-- nor have these
+pub ended : {P : Type 0} (p : ℕ) → eqb p 7 or eqb p 13 ≡ true → hasSuccessor p ≡ true → P
+ended p e s =
+    let y = apart-of p s in
+    either e (λ (j : eqb p 7 ≡ true). absurd (omega (tests, y .not7))) (λ (j : eqb p 13 ≡ true). absurd (omega (tests, y .not13)))
+
+-- and none is both
+pub exclusive : {P : Type 0} (p : ℕ) → eqb p 0 or eqb p 5 or eqb p 8 ≡ true → eqb p 7 or eqb p 13 ≡ true → P
+unfolding _or_
+exclusive p e i = either {a = eqb p 7} {b = eqb p 13} i (λ j. nope (rw (eqb-true p 7 j) at e)) (λ j. nope (rw (eqb-true p 13 j) at e))
 
 -- any other phase has one
 pub has-one : (p : ℕ) → p ≤ 13 → eqb p 0 or eqb p 5 or eqb p 8 ≡ false → eqb p 7 or eqb p 13 ≡ false → hasSuccessor p ≡ true
@@ -67,6 +80,7 @@ module _ (r : Record) (m : r .revision ≤ top) (w : whole r ≡ true) (t : ℕ)
         forward-stays = λ i. refl;
         back = λ i. refl;
         back-stays = λ i. absurd (omega arith);
+        spent = refl;
         batch = search;
         staged = refl;
         accepted = refl;
@@ -77,6 +91,7 @@ module _ (r : Record) (m : r .revision ≤ top) (w : whole r ≡ true) (t : ℕ)
         forward-stays = λ i. absurd (omega arith);
         back = λ i. absurd (omega arith);
         back-stays = λ i. refl;
+        spent = refl;
         batch = search;
         staged = refl;
         accepted = refl;

@@ -32,6 +32,10 @@ pub performed-fine : {P : Type 0} → refused 0 ≡ true → P
 unfolding refused _and_
 performed-fine e = nope e
 
+pub performed-real : {n : ℕ} → n ≡ 0 → refused n ≡ false
+unfolding refused _and_
+performed-real e = rw e
+
 -- one of two payloads is over 4,096, or neither
 pub too-long : (c o : ℕ) → long c or long o ≡ true → c ≤ areaSize → o ≤ areaSize → ⊥
 unfolding long

@@ -1,8 +1,9 @@
 -- What clauses of several functions say alike: wholeness, and what a call keeps. Assumes nothing.
-use Prim.Native.Nat.{ℕ}
+use Prim.Native.Nat.{ℕ, _≤_}
 use mathlib.Core.Path.{_≡_}
 use mathlib.Core.Bool.{Bool, true, _&&_}
 use lib.Dec.{leb}
+use Rattle.areas.specs.Areas.{areaSize}
 use Rattle.record.specs.Answers.{Told}
 use Rattle.record.specs.declared.Record.{Record}
 use Rattle.wholeness.specs.Whole.{whole}
@@ -29,3 +30,10 @@ pub record Framed (r : Record) (t : Told) : Type 0 where
   pub wf : whole (t .state) ≡ true
   pub accepted : t .state .accepted ≡ r .accepted
   pub version : t .state .revision ≡ r .revision
+
+-- two payloads are stored, by their lengths, which fit
+pub record Stores (c o : ℕ) (s : Record) : Type 0 where
+  pub candidate : s .candidate ≡ c
+  pub recovery : s .recovery ≡ o
+  pub candidate-fits : c ≤ areaSize
+  pub recovery-fits : o ≤ areaSize

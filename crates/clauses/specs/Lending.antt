@@ -1,10 +1,10 @@
 -- What the clauses say of payloads, areas and updates: a payload is the first bytes of its area, and what a call is lent moves with
 -- its step or stays. Assumes nothing.
-use Prim.Native.Nat.{ℕ, _+_, _*_, _<_}
+use Prim.Native.Nat.{ℕ, _+_, _*_, _/_, _<_}
 use mathlib.Core.Path.{_≡_}
 use mathlib.Core.Bool.{Bool, true, false}
-use mathlib.Core.List.{List}
-use lib.ListN.{length, take}
+use mathlib.Core.List.{List, []}
+use lib.ListN.{length, getD, take}
 use Rattle.batch.specs.Batch.{identityAt, payloadAt}
 use Rattle.record.specs.Answers.{Told, refused, refuse}
 use Rattle.record.specs.Leaves.{Leaves}
@@ -27,3 +27,17 @@ pub record Lends (r : Record) (sizes : Bool) (t : Told) (lent moved : List (List
 pub record ReadBack (pairs table : List ℕ) : Type 0 where
   pub identities : (i : ℕ) → 2 * i + 1 < length pairs → identityAt table i ≡ identityAt pairs i
   pub payloads : (i : ℕ) → 2 * i + 1 < length pairs → payloadAt table i ≡ payloadAt pairs i
+
+-- C26, C80 to C82, C128, C138, C149, C164: the staged payloads are the given ones, the first bytes of their areas
+pub record Stages (new old : List ℕ) (v : Leaves) : Type 0 where
+  pub candidate : payload (v .told .state .candidate) (getD (v .lent) 0 []) ≡ new
+  pub recovery : payload (v .told .state .recovery) (getD (v .lent) 1 []) ≡ old
+
+-- C153, C165: `new.batch().entries() == updates`
+pub record Holds (pairs : List ℕ) (v : Leaves) : Type 0 where
+  pub number : v .told .state .entries ≡ length pairs / 2
+  pub updates : ReadBack pairs (getD (v .lent) 2 [])
+
+-- C94: an identity in the table that is lent stays
+pub record SameIdentities (table : List ℕ) (v : Leaves) : Type 0 where
+  pub identities : (i : ℕ) → identityAt (getD (v .lent) 0 []) i ≡ identityAt table i

@@ -4,3 +4,5 @@ pub mod Structure
 pub mod Staging
 pub mod Ending
 pub mod Lending
+pub mod Gaps
+pub mod Tables

@@ -8,6 +8,7 @@ use Rattle.phases.specs.Phases.{none, adopt, hasSuccessor, successor, boundary}
 use Rattle.phases.specs.declared.Next.the-variants.{To}
 use Rattle.record.specs.Answers.{Told}
 use Rattle.record.specs.declared.Record.{Record}
+use Rattle.record.specs.declared.Live.the-variants.{None}
 use Rattle.clauses.specs.Keeping.{SameBatch, Framed}
 use Rattle.clauses.specs.Polls.{unfinished}
 
@@ -48,13 +49,15 @@ pub record StructureClauses (r : Record) (t : Told) : Type 0 where
   -- `Ready(Ok(true))` implies that the new phase is `Updates`, `Ready` or `Recovered`
   pub c187 : t .number ≡ 24 → boundary (t .state .phase .number) ≡ true
 
--- document 01: "Done goes to the successor, raises forward (phases 1 to 6) or back (9 to 12)", and all else but lengths and ticket stays
+-- document 01: "Done goes to the successor, raises forward (phases 1 to 6) or back (9 to 12)", and its ticket
+-- ends; all else but the two lengths stays
 pub record Advances (r s : Record) : Type 0 where
   pub phase : s .phase .number ≡ r .phase .number + 1
   pub forward : r .phase .number ≤ adopt → s .forward ≡ r .forward + 1
   pub forward-stays : adopt < r .phase .number → s .forward ≡ r .forward
   pub back : adopt < r .phase .number → s .back ≡ r .back + 1
   pub back-stays : r .phase .number ≤ adopt → s .back ≡ r .back
+  pub spent : s .live ≡ None
   pub batch : SameBatch r s
   pub staged : s .staged ≡ r .staged
   pub accepted : s .accepted ≡ r .accepted
