@@ -12,3 +12,5 @@ pub mod Areas
 pub mod Gaps
 pub mod Answers
 pub mod Tables
+pub mod Refusals
+pub mod Recordings

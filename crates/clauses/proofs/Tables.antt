@@ -11,6 +11,7 @@ use Rattle.record.specs.declared.Record.{Record}
 use Rattle.record.specs.declared.Live.{Live}
 use Rattle.record.specs.declared.Live.the-variants.{None}
 use Rattle.wholeness.specs.Whole.{whole}
+use Rattle.wholeness.proofs.Facts.{parts}
 use Rattle.demands.proofs.Facts.{Stage, Calm, tests}
 use Rattle.demands.proofs.Facts.Stage.{flat, flatBack, before, updating, after, undoing, backing}
 use Rattle.demands.proofs.Facts.Calm.{on, off}
@@ -45,7 +46,8 @@ well-formed r m h =
     let w = whole-facts r m h in
     record {
       c71 = protocol (w .stage);
-      c72 = w .size;
+      c72 = parts h .counts;
+      c72-restoring = parts h .restoring;
       c73 = room (w .calm);
       c74 = λ e. idle (w .calm) e .0;
       c75 = λ e. idle (w .calm) e .1;

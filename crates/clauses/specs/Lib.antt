@@ -6,3 +6,4 @@ pub mod Ending
 pub mod Lending
 pub mod Gaps
 pub mod Tables
+pub mod Recording

@@ -10,7 +10,7 @@ use Rattle.phases.specs.declared.Next.the-variants.{To, Nowhere}
 use Rattle.record.specs.Fields.{top}
 use Rattle.record.specs.declared.Record.{Record}
 use Rattle.record.specs.declared.Live.the-variants.{None}
-use Rattle.wholeness.proofs.Facts.{Counts}
+use Rattle.wholeness.specs.Whole.{countsFit, restoringFits}
 
 -- none, and the thirteen phases in upstream's order
 abbrev pub phases : List ℕ
@@ -61,8 +61,9 @@ pub record Protocol (p f b : ℕ) : Type 0 where
 pub record WellFormed (r : Record) : Type 0 where
   -- `protocol()` holds
   pub c71 : Protocol (r .phase .number) (r .forward) (r .back)
-  -- `batch().wf()`, as document 01's rules on the counts
-  pub c72 : Counts (r .entries) (r .applied) (r .attempted)
+  -- `batch().wf()`, as document 01's rules on the counts and on restoring
+  pub c72 : countsFit (r .entries) (r .applied) (r .attempted) ≡ true
+  pub c72-restoring : restoringFits (r .restoring) (r .phase .number) (r .entries) (r .applied) (r .attempted) ≡ true
   -- staged: `version() < u64::MAX`
   pub c73 : r .staged ≡ true → r .revision < top
   -- not staged: no entries, no structural phase, and no live ticket either
