@@ -14,3 +14,6 @@ pub mod Answers
 pub mod Tables
 pub mod Refusals
 pub mod Recordings
+pub mod Openings
+pub mod Statuses
+pub mod Successes

@@ -1,4 +1,4 @@
--- `new`, `begin`, `begin_structural`, `pending_mut` and `work`, clause by clause. Assumes nothing.
+-- `begin`, `begin_structural`, `pending_mut` and `work`, clause by clause. Assumes nothing.
 use Prim.Native.Nat.{ℕ, _≤_}
 use mathlib.Core.Path.{_≡_, refl}
 use mathlib.Core.Bool.{Bool, true, false}
@@ -8,26 +8,21 @@ use Rattle.choice.specs.Pick.{pick}
 use Rattle.choice.proofs.Picks.{yes, no}
 use Rattle.choice.proofs.Tests.{tests, never, eqb-ne}
 use Rattle.phases.specs.Phases.{none, remove}
-use Rattle.areas.specs.Areas.{areaSize, long}
 use Rattle.record.specs.Answers.{Told, refusalNumber, refuse}
 use Rattle.record.specs.Fields.{top}
 use Rattle.record.specs.declared.Record.{Record}
 use Rattle.record.specs.declared.Refusal.{Refusal}
 use Rattle.record.specs.declared.Refusal.the-variants.{Pending, Capacity, TooLong, TooMany}
 use Rattle.wholeness.specs.Whole.{whole}
-use Rattle.settling.specs.Ending.{settled}
-use Rattle.staging.specs.Opening.{opening, openStep}
 use Rattle.staging.specs.Beginning.{firstPhase, begun, beginOwn, editOwn}
 use Rattle.demands.specs.Calls.{step}
 use Rattle.demands.specs.Calls.Call.{begin, beginStructural, edit}
 use Rattle.demands.proofs.Own.{own}
 use Rattle.demands.proofs.Classify.{first, first-structural}
-use Rattle.demands.proofs.Wholeness.{whole-test}
-use Rattle.demands.proofs.Advancing.{idles}
 use Rattle.demands.proofs.Granting.{clash}
 use Rattle.clauses.specs.Keeping.{gained, SameBatch, Framed}
-use Rattle.clauses.specs.Staging.{OpenClauses, CanBegin, BeginClauses, EditClauses}
-use Rattle.clauses.proofs.Splitting.{Kept, refusal-real, performed-fine, too-long, fitting, split, by, on-step}
+use Rattle.clauses.specs.Staging.{CanBegin, BeginClauses, EditClauses}
+use Rattle.clauses.proofs.Splitting.{Kept, refusal-real, performed-fine, too-long, fitting, by, on-step}
 
 module _ (r : Record) (c o n : ℕ) where
   module _ (p : ℕ) where
@@ -80,16 +75,3 @@ module _ (r : Record) (c o : ℕ) where
       (by Edits _ (λ e k. edits (search) (λ i. absurd (omega arith)) (λ i. not-true _ e) (λ i. not-true _ e)) (λ e₁.
       by Edits _ (λ e k. edits (search) (λ i. absurd (omega arith)) (λ i. absurd (omega arith)) (λ i. absurd (omega arith)))
       (λ e₂ k. edits (search) (λ i. (refl, refl)) (λ i. absurd (omega arith)) (λ i. absurd (omega arith)))))
-
--- an opening is whole
-opening-whole : (v s l : ℕ) → v ≤ top → l ≤ areaSize → whole (opening v s l) ≡ true
-unfolding opening settled
-opening-whole v s l m h = whole-test (idles v l (opening v s l) m h)
-
-pub open-clauses : (sized : Bool) (v s l : ℕ) → v ≤ top → OpenClauses v l (openStep sized v s l)
-unfolding openStep opening long
-open-clauses sized v s l m =
-    let bad = opening-whole 0 0 0 (omega arith) (omega arith) in
-    split (OpenClauses v l) _ (λ e. record { c107 = bad; c108 = λ i. absurd (omega arith); c109 = λ i. absurd (omega arith); c110 = refl; c111 = refl }) (λ e₁.
-    split (OpenClauses v l) _ (λ e. record { c107 = bad; c108 = λ i. absurd (omega arith); c109 = λ i. absurd (omega arith); c110 = refl; c111 = refl })
-    (λ e₂. record { c107 = opening-whole v s l m (ltb-false _ _ e₂); c108 = λ i. refl; c109 = λ i. refl; c110 = refl; c111 = refl }))

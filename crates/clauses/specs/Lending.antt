@@ -41,3 +41,7 @@ pub record Holds (pairs : List ℕ) (v : Leaves) : Type 0 where
 -- C94: an identity in the table that is lent stays
 pub record SameIdentities (table : List ℕ) (v : Leaves) : Type 0 where
   pub identities : (i : ℕ) → identityAt (getD (v .lent) 0 []) i ≡ identityAt table i
+
+-- C108: an opening that is not refused has the given payload in the accepted area
+pub record Opens (given : List ℕ) (v : Leaves) : Type 0 where
+  pub c108 : payload (v .told .state .accepted) (getD (v .lent) 0 []) ≡ given

@@ -7,3 +7,5 @@ pub mod Lending
 pub mod Gaps
 pub mod Tables
 pub mod Recording
+pub mod Status
+pub mod Successes

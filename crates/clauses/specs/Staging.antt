@@ -14,8 +14,10 @@ use Rattle.record.specs.declared.Record.{Record}
 use Rattle.wholeness.specs.Whole.{whole}
 use Rattle.clauses.specs.Keeping.{gained, SameBatch, Framed}
 
--- `new`, opened at revision v with a payload of length l
-pub record OpenClauses (v l : ℕ) (t : Told) : Type 0 where
+-- `new`, opened at revision v with a payload of length l, the areas of the right size or not
+pub record OpenClauses (sizes : Bool) (v l : ℕ) (t : Told) : Type 0 where
+  -- no refusal but 6 and 8
+  pub fits : (t .number ≡ 0) ↔ ((sizes ≡ true) × (l ≤ areaSize))
   -- `out.wf()`
   pub c107 : whole (t .state) ≡ true
   -- `out.accepted() == current`, by its length
