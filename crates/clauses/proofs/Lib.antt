@@ -14,6 +14,8 @@ pub mod Answers
 pub mod Tables
 pub mod Refusals
 pub mod Recordings
+pub mod Recorder
 pub mod Openings
 pub mod Statuses
 pub mod Successes
+pub mod Outcomes

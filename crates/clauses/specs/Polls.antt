@@ -1,5 +1,5 @@
--- The clauses of `poll_update` and `poll_rollback`, of an asking and of a report alike: t is what it tells of the record r. Assumes
--- nothing.
+-- The clauses of `poll_update` and `poll_rollback`, of an asking and of a report alike: t is what it tells of the record r; and the
+-- outcomes of a report. Assumes nothing.
 use Prim.Native.Nat.{ℕ, _<_}
 use mathlib.Core.Path.{_≡_}
 use mathlib.Core.Bool.{Bool, true, false, _&&_, _||_}
@@ -7,8 +7,13 @@ use mathlib.Core.Logic.{_≢_}
 use lib.Dec.{eqb, leb}
 use Rattle.choice.specs.Pick.{_or_}
 use Rattle.phases.specs.Phases.{none, updates}
-use Rattle.record.specs.Answers.{Told}
+use Rattle.record.specs.Answers.{Told, answer, refuse}
+use Rattle.record.specs.Live.{isLive}
 use Rattle.record.specs.declared.Record.{Record}
+use Rattle.record.specs.declared.Outcome.{Outcome}
+use Rattle.record.specs.declared.Outcome.the-variants as O
+use Rattle.record.specs.declared.Answer.the-variants.{Waiting, Failed}
+use Rattle.record.specs.declared.Refusal.the-variants.{Stale}
 use Rattle.wholeness.specs.Whole.{complete}
 use Rattle.clauses.specs.Keeping.{gained, SameStaged, Framed}
 
@@ -43,3 +48,10 @@ pub record RollbackClauses (r : Record) (t : Told) : Type 0 where
   pub c105 : t .number ≡ 24 → t .state .entries ≡ 0
   -- `Pending` or `Ready(Err(_))` implies that it has entries
   pub c106 : unfinished (t .number) ≡ true → 0 < t .state .entries
+
+-- C80, C81, C239, C240: a report by its outcome, of the kind of ticket that it takes: `tells` gives what each outcome is told, and s is the
+-- record with the ticket spent and the payloads stored
+pub record ReportAnswers (kind ticket : ℕ) (r s : Record) (tells : Outcome → Told) : Type 0 where
+  pub c80 : isLive kind ticket (r .live) ≡ true → tells O.Waiting ≡ answer Waiting s
+  pub c81 : (code : ℕ) → isLive kind ticket (r .live) ≡ true → tells (O.Failed code) ≡ answer (Failed code) s
+  pub c240 : (x : Outcome) → isLive kind ticket (r .live) ≡ false → tells x ≡ refuse Stale r

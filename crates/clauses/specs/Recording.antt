@@ -5,11 +5,14 @@ use mathlib.Core.Bool.{Bool, true, false}
 use mathlib.Core.List.{List, [], _∷_}
 use mathlib.Core.Logic.{_≢_}
 use lib.ListN.{getD, drop}
+use Rattle.choice.specs.Pick.{_and_}
 use Rattle.record.specs.Answers.{refused, refuse}
 use Rattle.record.specs.Leaves.{Leaves, leaves}
 use Rattle.record.specs.declared.Record.{Record}
-use Rattle.record.specs.declared.Refusal.the-variants.{LogFull}
+use Rattle.record.specs.declared.Refusal.the-variants.{BadArea, Damaged, LogFull}
+use Rattle.wholeness.specs.Whole.{whole}
 use Rattle.log.specs.Log.{count, full, sound, event}
+use Rattle.recording.specs.Recorded.{withLog}
 use Rattle.clauses.specs.Lending.{payload}
 
 -- the log that a call leaves, and all else
@@ -32,6 +35,13 @@ pub record Recorded (written : ℕ → Bool) (kind : ℕ) (r : Record) (log : Li
   -- C305, C342, C354, C363, C364: an error implies `new == old`, of the record, of all that is lent, and of the log
   pub c305 : refused (v .told .number) ≡ true → (v .told .state ≡ r) × (unlogged v .lent ≡ lent)
   pub c305-log : written (v .told .number) ≡ false → logged v ≡ log
+
+-- v is left through any log, where all that is lent besides fits or not
+pub record Through (written : ℕ → Bool) (kind : ℕ) (r : Record) (log : List ℕ) (fits : Bool) (lent : List (List ℕ)) (inner v : Leaves) : Type 0 where
+  pub bad : withLog fits log .sized ≡ false → v ≡ leaves (refuse BadArea r) (log ∷ lent)
+  -- C252, C253, C256, C299, C309, C318, C327, C336, C347, C357: `wf()` is tested, of the record and of the log's head
+  pub damaged : withLog fits log .sized ≡ true → sound log and whole r ≡ false → v ≡ leaves (refuse Damaged r) (log ∷ lent)
+  pub ready : withLog fits log .sized ≡ true → sound log ≡ true → Recorded written kind r log lent inner v
 
 -- an opening through the log that is not refused
 pub record OpenRecorded (revision : ℕ) (given : List ℕ) (v : Leaves) : Type 0 where
