@@ -53,9 +53,10 @@ module _ (r : Record) (m : r .revision ≤ top) (w : whole r ≡ true) (c o : Li
         let k = of-told (BeginClauses p r (length new) (length old) (length pairs / 2)) x s y in
         let a = k .c147 .0 h in
         let g = k .ok h in
-        let l = x .moves (performed-real h) in
-        (stages c o new old _ _ (u .0) (u .1) (a .candidate) (a .recovery) (g .c149-candidate) (g .c149-recovery) l,
-        record { number = g .c153; updates = rw l (pairs-copied pairs t (q .1) (even (length pairs) (z .1) (a .few))) })
+        let l = x .moves (performed-real h) in (
+          stages c o new old _ _ (u .0) (u .1) (a .candidate) (a .recovery) (g .c149-candidate) (g .c149-recovery) l,
+          record { number = g .c153; updates = rw l (pairs-copied pairs t (q .1) (even (length pairs) (z .1) (a .few))) },
+        )
 
     pub begin-areas : beginLeaves false r c o t new old pairs .told .number ≡ 0 → Stages new old (beginLeaves false r c o t new old pairs) × Holds pairs (beginLeaves false r c o t new old pairs)
     begin-areas = begun (begin-lends r c o t new old pairs) (begin-clauses r (length new) (length old) (length pairs / 2) m w)

@@ -14,18 +14,17 @@ use Rattle.record.specs.Answers.{Told, refusalNumber, refuse}
 use Rattle.record.specs.Fields.{top}
 use Rattle.record.specs.declared.Record.{Record}
 use Rattle.record.specs.declared.Refusal.{Refusal}
-use Rattle.record.specs.declared.Refusal.the-variants.{Pending, Idle, NotReady, TooLong}
+use Rattle.record.specs.declared.Refusal.the-variants.{Idle, NotReady, TooLong}
 use Rattle.wholeness.specs.Whole.{whole, complete}
-use Rattle.settling.specs.Ending.{settled, commitOwn, unrestored, recoveredTo, recoverOwn, recoverRetainedOwn, refreshOwn}
+use Rattle.settling.specs.Ending.{settled, commitOwn, unrestored, recoveredTo, recoverOwn, recoverRetainedOwn}
 use Rattle.demands.specs.Calls.{step}
-use Rattle.demands.specs.Calls.Call.{commit, recover, recoverRetained, refresh}
+use Rattle.demands.specs.Calls.Call.{commit, recover, recoverRetained}
 use Rattle.demands.proofs.Own.{own}
-use Rattle.demands.proofs.Facts as Facts
 use Rattle.demands.proofs.Reading.{whole-facts}
 use Rattle.demands.proofs.Testing.{ranges}
 use Rattle.demands.proofs.Granting.{clash}
-use Rattle.clauses.specs.Keeping.{gained, SameStaged, SameBatch}
-use Rattle.clauses.specs.Ending.{CanCommit, CommitClauses, CanRecover, RecoverClauses, RefreshClauses}
+use Rattle.clauses.specs.Keeping.{gained}
+use Rattle.clauses.specs.Ending.{CanCommit, CommitClauses, CanRecover, RecoverClauses}
 use Rattle.clauses.proofs.Splitting.{Kept, refusal-real, performed-fine, by, on-step}
 
 -- 0 or q, and not 0

@@ -1,13 +1,11 @@
 -- `new` and the recorder's `new` and `new_in`, clause by clause. Assumes nothing.
 use Prim.Native.Nat.{ℕ, zero, suc, _-_, _≤_}
-use mathlib.Core.Path.{_≡_, refl, sym, _∙_}
-use mathlib.Core.Bool.{Bool, true, false, not}
+use mathlib.Core.Path.{_≡_, refl, sym}
+use mathlib.Core.Bool.{Bool, true}
 use mathlib.Core.List.{List, [], _∷_}
 use native.Mathlib.Omega.{arith}
-use lib.Dec.{ltb}
 use lib.ListN.{length, getD, replicate}
 use borrow.Author.Tests.{le-ltb, ltb-false, not-true, not-false}
-use Rattle.choice.specs.Pick.{pick, _and_}
 use Rattle.choice.proofs.Picks.{no}
 use Rattle.choice.proofs.Tests.{tests, both}
 use Rattle.areas.specs.Areas.{areaSize, sized, copied, long}

@@ -2,13 +2,13 @@
 -- ticket than the live one is taken. Assumes nothing.
 use Prim.Native.Nat.{ℕ, _≤_}
 use mathlib.Core.Path.{_≡_, refl, sym, _∙_, ap}
-use mathlib.Core.Bool.{true, false}
+use mathlib.Core.Bool.{true}
 use Rattle.choice.specs.Pick.{_or_}
 use Rattle.choice.proofs.Picks.{yes, no}
 use Rattle.choice.proofs.Tests.{test}
 use Rattle.areas.specs.Areas.{areaSize, long}
 use Rattle.record.specs.Answers.{Told}
-use Rattle.record.specs.Live.{isLive, structure, update, rollback}
+use Rattle.record.specs.Live.{structure, update, rollback}
 use Rattle.record.specs.Fields.{spent}
 use Rattle.record.specs.declared.Record.{Record}
 use Rattle.record.specs.declared.Outcome.{Outcome}

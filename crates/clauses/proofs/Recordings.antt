@@ -5,7 +5,7 @@ use mathlib.Core.Bool.{Bool, true, false, not}
 use mathlib.Core.List.{List, _∷_}
 use mathlib.Core.Logic.{_≢_}
 use borrow.Author.Tests.{not-true, not-false}
-use Rattle.choice.specs.Pick.{pick, _and_}
+use Rattle.choice.specs.Pick.{_and_}
 use Rattle.choice.proofs.Picks.{yes, no}
 use Rattle.record.specs.Answers.{Told, refused, refusalNumber, refuse}
 use Rattle.record.specs.Leaves.{Leaves, leaves, moving}
@@ -14,7 +14,7 @@ use Rattle.record.specs.declared.Refusal.{Refusal}
 use Rattle.record.specs.declared.Refusal.the-variants.{BadArea, Damaged}
 use Rattle.record.proofs.Saying.{refused-number}
 use Rattle.wholeness.specs.Whole.{whole}
-use Rattle.log.specs.Log.{sound, full, appended}
+use Rattle.log.specs.Log.{sound, appended}
 use Rattle.recording.specs.Recorded.{withLog, callWritten, recorded}
 use Rattle.recording.proofs.Through.{fit, same-step}
 use Rattle.demands.specs.Calls.{Call, stepWith, step}
@@ -22,12 +22,8 @@ use Rattle.demands.proofs.Unseen.{quiet}
 use Rattle.demands.proofs.Testing.{not-yes}
 use Rattle.demands.proofs.Granting.{clash}
 use Rattle.clauses.specs.Recording.{unlogged, Recorded, Through}
+use Rattle.clauses.proofs.Splitting.{split}
 use Rattle.clauses.proofs.Refusals.{refused-equal}
-
-split : (P : Leaves → Type 0) {x y : Leaves} (b : Bool) → (b ≡ true → P x) → (b ≡ false → P y) → P (pick b x y)
-unfolding pick
-split P true f g = f refl
-split P false f g = g refl
 
 -- any step that a refusal leaves as it was
 records : (written : ℕ → Bool) (kind : ℕ) (t : Told) (r : Record) (log : List ℕ) (lent moved : List (List ℕ)) → (refused (t .number) ≡ true → t .state ≡ r) →

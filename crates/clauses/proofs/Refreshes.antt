@@ -8,7 +8,7 @@ use lib.ListN.{getD}
 use borrow.Author.Tests.{eq-eqb, eqb-true, ltb-false, not-true}
 use Rattle.choice.proofs.Tests.{tests, both, join}
 use Rattle.areas.specs.Areas.{areaSize, long}
-use Rattle.record.specs.Answers.{Told, refusalNumber, refuse}
+use Rattle.record.specs.Answers.{Told, refuse}
 use Rattle.record.specs.Fields.{top}
 use Rattle.record.specs.declared.Record.{Record}
 use Rattle.record.specs.declared.Refusal.{Refusal}

@@ -49,12 +49,13 @@ fitting c o e = let x = neither e in (ltb-false _ _ (x .0), ltb-false _ _ (x .1)
 abbrev pub Kept : (Told → Type 0) → Told → Type 0
 Kept P t = whole (t .state) ≡ true → P t
 
--- one test
-pub split : (P : Told → Type 0) {x y : Told} (b : Bool) → (b ≡ true → P x) → (b ≡ false → P y) → P (pick b x y)
+-- one test of a definition
+pub split : {A : Type 0} (P : A → Type 0) {x y : A} (b : Bool) → (b ≡ true → P x) → (b ≡ false → P y) → P (pick b x y)
 unfolding pick
 split P true f g = f refl
 split P false f g = g refl
 
+-- and of a step
 pub by : (P : Told → Type 0) {x y : Told} (b : Bool) → (b ≡ true → Kept P x) → (b ≡ false → Kept P y) → Kept P (pick b x y)
 by P b f g = split (Kept P) b f g
 

@@ -1,30 +1,24 @@
 -- `effect_status`, `initialize_effect_status` and `cancel`, clause by clause. Assumes nothing.
 use Prim.Native.Nat.{ℕ, _+_, _/_, _%_}
 use mathlib.Core.Path.{_≡_, refl, ap}
-use mathlib.Core.Bool.{Bool, true, false, not}
+use mathlib.Core.Bool.{Bool, true, false}
 use mathlib.Core.List.{List, [], _∷_}
 use native.Mathlib.Omega.{arith}
 use lib.Dec.{eqb}
-use lib.ListN.{length, getD, set, length-set}
+use lib.ListN.{getD, length-set}
 use lib.Seq.{getD-set-same, getD-set-other}
 use borrow.Author.Tests.{eq-eqb, eqb-true, ltb-false, leb-false, not-true, not-false}
 use Rattle.choice.specs.Pick.{pick, _and_, _or_}
 use Rattle.choice.proofs.Tests.{tests, both, join}
-use Rattle.record.specs.Answers.{Said, said}
+use Rattle.record.specs.Answers.{said}
 use Rattle.record.specs.declared.Refusal.{Refusal}
-use Rattle.status.specs.Status.{Marks, leavesMarks, live, settled, pending, linked, bytesSound, entryOf, put, withInitialized, withCancelled, marking, linkLeaves, initializeLeaves, cancelLeaves}
+use Rattle.status.specs.Status.{Marks, leavesMarks, linked, bytesSound, entryOf, put, withInitialized, withCancelled, marking, linkLeaves, initializeLeaves, cancelLeaves}
 use Rattle.status.specs.declared.Entry.{Entry}
 use Rattle.status.specs.declared.Entry.the-variants.{At, No}
 use Rattle.demands.proofs.Testing.{right}
 use Rattle.demands.proofs.Granting.{clash}
 use Rattle.clauses.specs.Status.{Place, MarkClauses, linkable, initializable, Initializes, Cancels}
-use Rattle.clauses.proofs.Splitting.{refusal-real}
-
--- one test
-split : {A : Type 0} (P : A → Type 0) {x y : A} (b : Bool) → (b ≡ true → P x) → (b ≡ false → P y) → P (pick b x y)
-unfolding pick
-split P true f g = f refl
-split P false f g = g refl
+use Rattle.clauses.proofs.Splitting.{refusal-real, split}
 
 module _ (groups status : List ℕ) (id : ℕ) where
   -- what is found at the id

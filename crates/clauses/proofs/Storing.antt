@@ -7,7 +7,7 @@ use Rattle.phases.specs.Phases.{successor}
 use Rattle.phases.specs.declared.Next.{Next}
 use Rattle.phases.specs.declared.Next.the-variants.{To, Nowhere}
 use Rattle.areas.specs.Areas.{long}
-use Rattle.record.specs.Answers.{Told, refused, refusalNumber, refuse}
+use Rattle.record.specs.Answers.{Told, refused, refuse}
 use Rattle.record.specs.Fields.{top, spent}
 use Rattle.record.specs.declared.Record.{Record}
 use Rattle.record.specs.declared.Outcome.{Outcome}

@@ -21,8 +21,7 @@ use Rattle.reporting.specs.Reports.{reported}
 use Rattle.demands.specs.Calls.{step}
 use Rattle.demands.specs.Calls.Call.{askUpdate, reportUpdate}
 use Rattle.demands.proofs.Own.{own}
-use Rattle.demands.proofs.Leaf.{Updates}
-use Rattle.demands.proofs.Facts.{Whole, tests}
+use Rattle.demands.proofs.Facts.{tests}
 use Rattle.demands.proofs.Reading.{whole-facts}
 use Rattle.demands.proofs.Wholeness.{updates-test}
 use Rattle.demands.proofs.Tickets.{onUpdate}

@@ -7,7 +7,6 @@ use mathlib.Core.Logic.{_≢_, _↔_}
 use Rattle.choice.specs.Pick.{pick}
 use Rattle.areas.specs.Areas.{areaSize}
 use Rattle.batch.specs.Batch.{limit}
-use Rattle.phases.specs.Phases.{none, remove}
 use Rattle.record.specs.Answers.{Told, refused}
 use Rattle.record.specs.Fields.{top}
 use Rattle.record.specs.declared.Record.{Record}
