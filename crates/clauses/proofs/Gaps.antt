@@ -47,10 +47,28 @@ module _ (r : Record) (m : r .revision ≤ top) (w : whole r ≡ true) where
         finished = exclusive (r .phase .number) e;
         ticket = no-successor _ e;
         worn = no-successor _ e;
+        staged = search;
       }) (λ e₁.
-      by (StructureAsked r) _ (λ e k. record { notReady = λ i. clash _ i e₁; finished = λ i. refl; ticket = ended (r .phase .number) e; worn = ended (r .phase .number) e }) (λ e₂.
-      by (StructureAsked r) _ (λ e k. record { notReady = λ i. clash _ i e₁; finished = λ i. clash _ i e₂; ticket = λ i s. absurd (s (eqb-true _ _ e)); worn = λ i s. refl })
-      (λ e₃ k. record { notReady = λ i. clash _ i e₁; finished = λ i. clash _ i e₂; ticket = λ i s. refl; worn = λ i s. absurd (eqb-ne _ _ e₃ s) }))))
+      by (StructureAsked r) _ (λ e k. record {
+        notReady = λ i. clash _ i e₁;
+        finished = λ i. refl;
+        ticket = ended (r .phase .number) e;
+        worn = ended (r .phase .number) e;
+        staged = search;
+      }) (λ e₂.
+      by (StructureAsked r) _ (λ e k. record {
+        notReady = λ i. clash _ i e₁;
+        finished = λ i. clash _ i e₂;
+        ticket = λ i s. absurd (s (eqb-true _ _ e));
+        worn = λ i s. refl;
+        staged = search;
+      }) (λ e₃ k. record {
+        notReady = λ i. clash _ i e₁;
+        finished = λ i. clash _ i e₂;
+        ticket = λ i s. (refl, refl);
+        worn = λ i s. absurd (eqb-ne _ _ e₃ s);
+        staged = search;
+      }))))
 
   -- a phase that a test picks, at the answer Finished
   turns : {from to : ℕ} {t : Told} → t .number ≡ 24 → t .state .phase .number ≡ pick (eqb (r .phase .number) from) to (r .phase .number) → AtFinished from to r t

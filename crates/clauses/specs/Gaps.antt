@@ -1,8 +1,9 @@
 -- Document 01, "Gaps read in the contracts": what upstream leaves open and the steps here decide. t is what a call tells of the
 -- record r. Assumes nothing.
-use Prim.Native.Nat.{ℕ, _≤_, _<_}
+use Prim.Native.Nat.{ℕ, _+_, _≤_, _<_}
 use mathlib.Core.Path.{_≡_}
 use mathlib.Core.Bool.{true, false, not}
+use mathlib.Core.List.{[], _∷_}
 use mathlib.Core.Logic.{_≢_}
 use lib.Dec.{eqb, ltb}
 use Rattle.choice.specs.Pick.{_or_}
@@ -12,6 +13,7 @@ use Rattle.batch.specs.Batch.{limit}
 use Rattle.record.specs.Answers.{Told}
 use Rattle.record.specs.Fields.{top}
 use Rattle.record.specs.declared.Record.{Record}
+use Rattle.clauses.specs.Keeping.{SameStaged}
 use Rattle.clauses.specs.Structure.{Advances}
 use Rattle.clauses.specs.Staging.{CanBegin}
 use Rattle.clauses.specs.Ending.{CanRecover}
@@ -27,8 +29,10 @@ pub record Succeeds (r : Record) (t : Told) : Type 0 where
 pub record StructureAsked (r : Record) (t : Told) : Type 0 where
   pub notReady : eqb (r .phase .number) none or eqb (r .phase .number) updates or eqb (r .phase .number) undo ≡ true → t .number ≡ 4
   pub finished : eqb (r .phase .number) ready or eqb (r .phase .number) recovered ≡ true → t .number ≡ 24
-  pub ticket : hasSuccessor (r .phase .number) ≡ true → r .serial ≢ top → t .number ≡ 20
+  pub ticket : hasSuccessor (r .phase .number) ≡ true → r .serial ≢ top → (t .number ≡ 20) × (t .values ≡ (r .serial + 1) ∷ r .phase .number ∷ [])
   pub worn : hasSuccessor (r .phase .number) ≡ true → r .serial ≡ top → t .number ≡ 11
+  -- C25, C233: the staged payloads are as they were
+  pub staged : SameStaged r (t .state)
 
 -- "`poll_update` .. and `poll_rollback`: only wf bounds the phase afterwards": here one phase becomes another exactly where the answer
 -- is Finished, and every other phase stays: 5 becomes 6 (ask update, report update), 8 becomes 9 (report rollback)
