@@ -7,7 +7,7 @@ use native.Mathlib.Omega.{arith}
 use lib.Dec.{eqb}
 use lib.ListN.{getD, length-set}
 use lib.Seq.{getD-set-same, getD-set-other}
-use borrow.Author.Tests.{eq-eqb, eqb-true, ltb-false, leb-false, not-true, not-false}
+use borrow.Author.Tests.{eq-eqb, eqb-true, ltb-false, le-leb, leb-false, not-true, not-false}
 use Rattle.choice.specs.Pick.{pick, _and_, _or_}
 use Rattle.choice.proofs.Tests.{tests, both, join}
 use Rattle.record.specs.Answers.{said}
@@ -89,10 +89,22 @@ cancelled-alone mark = split (Cancels mark) _ (λ (e : eqb (mark / 2 % 2) 1 ≡ 
     let h : (mark + 2) / 4 ≡ mark / 4 = omega tests in
     record { linked = omega tests; c388 = omega tests; initialized = ap (λ (k : ℕ). k % 2) h; finished = omega tests })
 
--- a linked byte is sound where the group byte is
+-- where the bytes of an id are sound, they stay so: a new link, and a linked byte of which one flag is set
 pub linked-sound : (group mark : ℕ) → bytesSound group mark ≡ true → bytesSound group 1 ≡ true
 unfolding bytesSound
 linked-sound group mark e = join (join (both (both e .0) .0) refl) (right _ refl)
+
+sound-after : (group mark after : ℕ) → bytesSound group mark ≡ true → linked mark ≡ true → after % 2 ≡ mark % 2 → after / 8 ≡ mark / 8 → bytesSound group after ≡ true
+unfolding bytesSound
+sound-after group mark after e l p q =
+    let x = both (both e .0) in
+    join (join (x .0) (le-leb after 15 (omega (tests, x .1)))) (right _ (eq-eqb (after % 2) 1 (omega tests)))
+
+pub initialized-sound : (group mark : ℕ) → bytesSound group mark ≡ true → linked mark ≡ true → bytesSound group (withInitialized mark) ≡ true
+initialized-sound group mark e l = let x = initialized-alone mark in sound-after group mark _ e l (x .linked) (x .finished)
+
+pub cancelled-sound : (group mark : ℕ) → bytesSound group mark ≡ true → linked mark ≡ true → bytesSound group (withCancelled mark) ≡ true
+cancelled-sound group mark e l = let x = cancelled-alone mark in sound-after group mark _ e l (x .linked) (x .finished)
 
 -- initializing is not always refused: a live and settled group, linked
 pub initialize-possible : initializeLeaves (0 ∷ 3 ∷ []) (0 ∷ 1 ∷ []) 1 ≡ leavesMarks (said 0 []) (0 ∷ 5 ∷ [])
