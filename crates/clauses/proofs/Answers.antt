@@ -4,8 +4,9 @@ use Prim.Native.Nat.{ℕ, _≤_}
 use mathlib.Core.Path.{_≡_, refl, _∙_}
 use mathlib.Core.Bool.{Bool, true, false, not}
 use native.Mathlib.Omega.{arith}
+use lib.Dec.{eqb}
 use borrow.Author.Tests.{eq-eqb, eqb-true, lt-ltb, ltb-true, ltb-false, not-true, not-false}
-use Rattle.choice.specs.Pick.{pick}
+use Rattle.choice.specs.Pick.{pick, _or_}
 use Rattle.choice.proofs.Tests.{tests, both, join, neither, eqb-ne}
 use Rattle.areas.specs.Areas.{areaSize, long}
 use Rattle.record.specs.Answers.{Told, refuse}
@@ -94,14 +95,17 @@ module _ (r : Record) (m : r .revision ≤ top) (w : whole r ≡ true) where
     unfolding unrestored
     emptied e = omega (tests, neither e .0)
 
-    recovers : not (r .staged) ≡ false → unrestored r ≡ false → n ≤ areaSize → RecoverAnswer r n 0
+    placed : unrestored r ≡ false → eqb (r .phase .number) 0 or eqb (r .phase .number) 13 ≡ true
     unfolding unrestored
-    recovers e₁ e₂ h = let x = neither e₂ in RecoverAnswer.recovers (record { staged = not-false _ e₁; empty = emptied e₂; place = not-false _ (x .1); fits = h })
+    placed e = not-false _ (neither e .1)
+
+    recovers : not (r .staged) ≡ false → unrestored r ≡ false → n ≤ areaSize → RecoverAnswer r n 0
+    recovers e₁ e₂ h = RecoverAnswer.recovers (record { staged = not-false _ e₁; empty = emptied e₂; place = placed e₂; fits = h })
 
     pub recover-answer : RecoverAnswer r n (step r (recover n) .number)
     unfolding own recoverOwn long
     recover-answer = on-step Recovers r (recover n) m w (unready _ (λ e₁ e₂.
-        by Recovers _ (λ e k. RecoverAnswer.tooLong (not-false _ e₁) (emptied e₂) (ltb-true _ _ e)) (λ e₃ k. recovers e₁ e₂ (ltb-false _ _ e₃))))
+        by Recovers _ (λ e k. RecoverAnswer.tooLong (not-false _ e₁) (emptied e₂) (placed e₂) (ltb-true _ _ e)) (λ e₃ k. recovers e₁ e₂ (ltb-false _ _ e₃))))
 
   pub recover-retained-answer : RecoverAnswer r (r .recovery) (step r recoverRetained .number)
   unfolding own recoverRetainedOwn

@@ -19,3 +19,4 @@ pub mod Openings
 pub mod Statuses
 pub mod Successes
 pub mod Outcomes
+pub mod Carried

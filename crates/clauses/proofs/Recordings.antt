@@ -26,7 +26,7 @@ use Rattle.clauses.proofs.Splitting.{split}
 use Rattle.clauses.proofs.Refusals.{refused-equal}
 
 -- any step that a refusal leaves as it was
-records : (written : ℕ → Bool) (kind : ℕ) (t : Told) (r : Record) (log : List ℕ) (lent moved : List (List ℕ)) → (refused (t .number) ≡ true → t .state ≡ r) →
+pub records : (written : ℕ → Bool) (kind : ℕ) (t : Told) (r : Record) (log : List ℕ) (lent moved : List (List ℕ)) → (refused (t .number) ≡ true → t .state ≡ r) →
     Recorded written kind r log lent (moving t lent moved) (recorded written kind t r log lent moved)
 unfolding recorded appended
 records written kind t r log lent moved f =

@@ -62,5 +62,5 @@ pub data BeginAnswer (r : Record) (c o n : ℕ) : ℕ → Type 0 where
 pub data RecoverAnswer (r : Record) (n : ℕ) : ℕ → Type 0 where
   idle : r .staged ≡ false → RecoverAnswer r n 2
   notReady : r .staged ≡ true → ltb 0 (r .entries) or not (eqb (r .phase .number) none or eqb (r .phase .number) recovered) ≡ true → RecoverAnswer r n 4
-  tooLong : r .staged ≡ true → r .entries ≡ 0 → areaSize < n → RecoverAnswer r n 8
+  tooLong : r .staged ≡ true → r .entries ≡ 0 → eqb (r .phase .number) none or eqb (r .phase .number) recovered ≡ true → areaSize < n → RecoverAnswer r n 8
   recovers : CanRecover r n → RecoverAnswer r n 0
