@@ -53,31 +53,50 @@ module _ (r : Record) (m : r .revision ≤ top) (w : whole r ≡ true) (log : Li
   carried C {fits = fits} {t = t} {lent = lent} {moved = moved} x l p z n =
       through (λ u. C (u .told) × Lends r fits t lent moved u) (x .ready z h) n (of-told C l (fit fits log z) p, l)
 
-  pub begin-carried : (c o t new old pairs : List ℕ) → Carries (BeginClauses none r (length new) (length old) (length pairs / 2)) r log (sized c and sized o and tableSized t and paired pairs) (step r (begin (length new) (length old) (length pairs / 2))) (c ∷ o ∷ t ∷ []) (copied new c ∷ copied old o ∷ pairsIn pairs t ∷ []) (beginRecorded false r log c o t new old pairs)
-  begin-carried c o t new old pairs = carried (BeginClauses none r (length new) (length old) (length pairs / 2)) (begin-recorded r log c o t new old pairs) (begin-lends r c o t new old pairs) (begin-clauses r (length new) (length old) (length pairs / 2) m w)
+  pub begin-carried : (c o t new old pairs : List ℕ) →
+      Carries (BeginClauses none r (length new) (length old) (length pairs / 2)) r log
+      (sized c and sized o and tableSized t and paired pairs) (step r (begin (length new) (length old) (length pairs / 2))) (c ∷ o ∷ t ∷ [])
+      (copied new c ∷ copied old o ∷ pairsIn pairs t ∷ []) (beginRecorded false r log c o t new old pairs)
+  begin-carried c o t new old pairs =
+      carried (BeginClauses none r (length new) (length old) (length pairs / 2)) (begin-recorded r log c o t new old pairs) (begin-lends r c o t new old pairs) (begin-clauses r (length new) (length old) (length pairs / 2) m w)
 
-  pub begin-structural-carried : (c o t new old pairs : List ℕ) → Carries (BeginClauses remove r (length new) (length old) (length pairs / 2)) r log (sized c and sized o and tableSized t and paired pairs) (step r (beginStructural (length new) (length old) (length pairs / 2))) (c ∷ o ∷ t ∷ []) (copied new c ∷ copied old o ∷ pairsIn pairs t ∷ []) (beginRecorded true r log c o t new old pairs)
-  begin-structural-carried c o t new old pairs = carried (BeginClauses remove r (length new) (length old) (length pairs / 2)) (begin-structural-recorded r log c o t new old pairs) (begin-structural-lends r c o t new old pairs) (begin-structural-clauses r (length new) (length old) (length pairs / 2) m w)
+  pub begin-structural-carried : (c o t new old pairs : List ℕ) →
+      Carries (BeginClauses remove r (length new) (length old) (length pairs / 2)) r log
+      (sized c and sized o and tableSized t and paired pairs) (step r (beginStructural (length new) (length old) (length pairs / 2)))
+      (c ∷ o ∷ t ∷ []) (copied new c ∷ copied old o ∷ pairsIn pairs t ∷ []) (beginRecorded true r log c o t new old pairs)
+  begin-structural-carried c o t new old pairs =
+      carried (BeginClauses remove r (length new) (length old) (length pairs / 2)) (begin-structural-recorded r log c o t new old pairs) (begin-structural-lends r c o t new old pairs) (begin-structural-clauses r (length new) (length old) (length pairs / 2) m w)
 
-  pub report-structure-carried : (c o : List ℕ) (k : ℕ) (x : Outcome) (new old : List ℕ) → Carries (StructureClauses r) r log (sized c and sized o) (step r (reportStructure k x (length new) (length old))) (c ∷ o ∷ []) (copied new c ∷ copied old o ∷ []) (reportStructureRecorded r log c o k x new old)
+  pub report-structure-carried : (c o : List ℕ) (k : ℕ) (x : Outcome) (new old : List ℕ) →
+      Carries (StructureClauses r) r log (sized c and sized o) (step r (reportStructure k x (length new) (length old))) (c ∷ o ∷ [])
+      (copied new c ∷ copied old o ∷ []) (reportStructureRecorded r log c o k x new old)
   report-structure-carried c o k x new old = carried (StructureClauses r) (report-structure-recorded r log c o k x new old) (report-structure-lends r c o k x new old) (structure-reported r m w k x (length new) (length old))
 
-  pub report-update-carried : (t : List ℕ) (k : ℕ) (x : Outcome) (value : ℕ) → Carries (UpdateClauses r) r log (tableSized t) (step r (reportUpdate k x)) (t ∷ []) (stored (r .applied) value t ∷ []) (reportUpdateRecorded r log t k x value)
+  pub report-update-carried : (t : List ℕ) (k : ℕ) (x : Outcome) (value : ℕ) →
+      Carries (UpdateClauses r) r log (tableSized t) (step r (reportUpdate k x)) (t ∷ []) (stored (r .applied) value t ∷ [])
+      (reportUpdateRecorded r log t k x value)
   report-update-carried t k x value = carried (UpdateClauses r) (report-update-recorded r log t k x value) (report-update-lends r t k x value) (update-reported r m w k x)
 
-  pub report-rollback-carried : (t : List ℕ) (k : ℕ) (x : Outcome) (value : ℕ) → Carries (RollbackClauses r) r log (tableSized t) (step r (reportRollback k x)) (t ∷ []) (stored (r .entries - 1) value t ∷ []) (reportRollbackRecorded r log t k x value)
+  pub report-rollback-carried : (t : List ℕ) (k : ℕ) (x : Outcome) (value : ℕ) →
+      Carries (RollbackClauses r) r log (tableSized t) (step r (reportRollback k x)) (t ∷ []) (stored (r .entries - 1) value t ∷ [])
+      (reportRollbackRecorded r log t k x value)
   report-rollback-carried t k x value = carried (RollbackClauses r) (report-rollback-recorded r log t k x value) (report-rollback-lends r t k x value) (rollback-reported r m w k x)
 
-  pub commit-carried : (a c : List ℕ) → Carries (CommitClauses r) r log (sized a and sized c) (step r commit) (a ∷ c ∷ []) (c ∷ a ∷ []) (commitRecorded r log a c)
+  pub commit-carried : (a c : List ℕ) →
+      Carries (CommitClauses r) r log (sized a and sized c) (step r commit) (a ∷ c ∷ []) (c ∷ a ∷ []) (commitRecorded r log a c)
   commit-carried a c = carried (CommitClauses r) (commit-recorded r log a c) (commit-lends r a c) (commit-clauses r m w)
 
-  pub recover-carried : (a x : List ℕ) (n : ℕ) → Carries (RecoverClauses r n) r log (sized a and sized x) (step r (recover n)) (a ∷ x ∷ []) (x ∷ a ∷ []) (recoverRecorded r log a x n)
+  pub recover-carried : (a x : List ℕ) (n : ℕ) →
+      Carries (RecoverClauses r n) r log (sized a and sized x) (step r (recover n)) (a ∷ x ∷ []) (x ∷ a ∷ []) (recoverRecorded r log a x n)
   recover-carried a x n = carried (RecoverClauses r n) (recover-recorded r log a x n) (recover-lends r a x n) (recover-clauses r m w n)
 
-  pub recover-retained-carried : (a o x : List ℕ) → Carries (RecoverClauses r (r .recovery)) r log (sized a and sized o and sized x) (step r recoverRetained) (a ∷ o ∷ x ∷ []) (o ∷ o ∷ a ∷ []) (recoverRetainedRecorded r log a o x)
+  pub recover-retained-carried : (a o x : List ℕ) →
+      Carries (RecoverClauses r (r .recovery)) r log (sized a and sized o and sized x) (step r recoverRetained) (a ∷ o ∷ x ∷ [])
+      (o ∷ o ∷ a ∷ []) (recoverRetainedRecorded r log a o x)
   recover-retained-carried a o x = carried (RecoverClauses r (r .recovery)) (recover-retained-recorded r log a o x) (recover-retained-lends r a o x) (recover-retained-clauses r m w)
 
-  pub refresh-carried : (a x : List ℕ) (n : ℕ) → Carries (RefreshClauses r n) r log (sized a and sized x) (step r (refresh n)) (a ∷ x ∷ []) (x ∷ a ∷ []) (refreshRecorded r log a x n)
+  pub refresh-carried : (a x : List ℕ) (n : ℕ) →
+      Carries (RefreshClauses r n) r log (sized a and sized x) (step r (refresh n)) (a ∷ x ∷ []) (x ∷ a ∷ []) (refreshRecorded r log a x n)
   refresh-carried a x n = carried (RefreshClauses r n) (refresh-recorded r log a x n) (refresh-lends r a x n) (refresh-clauses r m w n)
 
   pub ask-structure-carried : withLog true log .sized ≡ true → askStructureRecorded r log .told .number ≢ 12 → StructureClauses r (askStructureRecorded r log .told)

@@ -38,27 +38,39 @@ lends r c b lent moved q = record {
 }
 
 module _ (r : Record) where
-  pub begin-lends : (c o t new old pairs : List ℕ) → Lends r (sized c and sized o and tableSized t and paired pairs) (step r (begin (length new) (length old) (length pairs / 2))) (c ∷ o ∷ t ∷ []) (copied new c ∷ copied old o ∷ pairsIn pairs t ∷ []) (beginLeaves false r c o t new old pairs)
+  pub begin-lends : (c o t new old pairs : List ℕ) →
+      Lends r (sized c and sized o and tableSized t and paired pairs) (step r (begin (length new) (length old) (length pairs / 2)))
+      (c ∷ o ∷ t ∷ []) (copied new c ∷ copied old o ∷ pairsIn pairs t ∷ []) (beginLeaves false r c o t new old pairs)
   unfolding beginLeaves stepWith gateOf gated pick
   begin-lends c o t new old pairs = lends r (begin (length new) (length old) (length pairs / 2)) _ _ _ refl
 
-  pub begin-structural-lends : (c o t new old pairs : List ℕ) → Lends r (sized c and sized o and tableSized t and paired pairs) (step r (beginStructural (length new) (length old) (length pairs / 2))) (c ∷ o ∷ t ∷ []) (copied new c ∷ copied old o ∷ pairsIn pairs t ∷ []) (beginLeaves true r c o t new old pairs)
+  pub begin-structural-lends : (c o t new old pairs : List ℕ) →
+      Lends r (sized c and sized o and tableSized t and paired pairs)
+      (step r (beginStructural (length new) (length old) (length pairs / 2))) (c ∷ o ∷ t ∷ [])
+      (copied new c ∷ copied old o ∷ pairsIn pairs t ∷ []) (beginLeaves true r c o t new old pairs)
   unfolding beginLeaves stepWith gateOf gated pick
   begin-structural-lends c o t new old pairs = lends r (beginStructural (length new) (length old) (length pairs / 2)) _ _ _ refl
 
-  pub edit-lends : (c o new old : List ℕ) → Lends r (sized c and sized o) (step r (edit (length new) (length old))) (c ∷ o ∷ []) (copied new c ∷ copied old o ∷ []) (editLeaves r c o new old)
+  pub edit-lends : (c o new old : List ℕ) →
+      Lends r (sized c and sized o) (step r (edit (length new) (length old))) (c ∷ o ∷ []) (copied new c ∷ copied old o ∷ [])
+      (editLeaves r c o new old)
   unfolding editLeaves stepWith gateOf gated pick
   edit-lends c o new old = lends r (edit (length new) (length old)) _ _ _ refl
 
-  pub report-structure-lends : (c o : List ℕ) (k : ℕ) (x : Outcome) (new old : List ℕ) → Lends r (sized c and sized o) (step r (reportStructure k x (length new) (length old))) (c ∷ o ∷ []) (copied new c ∷ copied old o ∷ []) (reportStructureLeaves r c o k x new old)
+  pub report-structure-lends : (c o : List ℕ) (k : ℕ) (x : Outcome) (new old : List ℕ) →
+      Lends r (sized c and sized o) (step r (reportStructure k x (length new) (length old))) (c ∷ o ∷ []) (copied new c ∷ copied old o ∷ [])
+      (reportStructureLeaves r c o k x new old)
   unfolding reportStructureLeaves stepWith gateOf gated reportGate behind pick
   report-structure-lends c o k x new old = lends r (reportStructure k x (length new) (length old)) _ _ _ refl
 
-  pub report-update-lends : (t : List ℕ) (k : ℕ) (x : Outcome) (value : ℕ) → Lends r (tableSized t) (step r (reportUpdate k x)) (t ∷ []) (stored (r .applied) value t ∷ []) (reportUpdateLeaves r t k x value)
+  pub report-update-lends : (t : List ℕ) (k : ℕ) (x : Outcome) (value : ℕ) →
+      Lends r (tableSized t) (step r (reportUpdate k x)) (t ∷ []) (stored (r .applied) value t ∷ []) (reportUpdateLeaves r t k x value)
   unfolding reportUpdateLeaves stepWith gateOf gated reportGate behind pick
   report-update-lends t k x value = lends r (reportUpdate k x) _ _ _ refl
 
-  pub report-rollback-lends : (t : List ℕ) (k : ℕ) (x : Outcome) (value : ℕ) → Lends r (tableSized t) (step r (reportRollback k x)) (t ∷ []) (stored (r .entries - 1) value t ∷ []) (reportRollbackLeaves r t k x value)
+  pub report-rollback-lends : (t : List ℕ) (k : ℕ) (x : Outcome) (value : ℕ) →
+      Lends r (tableSized t) (step r (reportRollback k x)) (t ∷ []) (stored (r .entries - 1) value t ∷ [])
+      (reportRollbackLeaves r t k x value)
   unfolding reportRollbackLeaves stepWith gateOf gated reportGate behind pick
   report-rollback-lends t k x value = lends r (reportRollback k x) _ _ _ refl
 
@@ -70,7 +82,8 @@ module _ (r : Record) where
   unfolding recoverLeaves stepWith gateOf gated pick
   recover-lends a x n = lends r (recover n) _ _ _ refl
 
-  pub recover-retained-lends : (a o x : List ℕ) → Lends r (sized a and sized o and sized x) (step r (recoverRetained)) (a ∷ o ∷ x ∷ []) (o ∷ o ∷ a ∷ []) (recoverRetainedLeaves r a o x)
+  pub recover-retained-lends : (a o x : List ℕ) →
+      Lends r (sized a and sized o and sized x) (step r (recoverRetained)) (a ∷ o ∷ x ∷ []) (o ∷ o ∷ a ∷ []) (recoverRetainedLeaves r a o x)
   unfolding recoverRetainedLeaves stepWith gateOf gated pick
   recover-retained-lends a o x = lends r (recoverRetained) _ _ _ refl
 

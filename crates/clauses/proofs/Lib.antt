@@ -20,3 +20,4 @@ pub mod Statuses
 pub mod Successes
 pub mod Outcomes
 pub mod Carried
+pub mod Rejected

@@ -35,11 +35,15 @@ unfolding callWritten
 unwritten-calls = (refl, refl)
 
 module _ (r : Record) (log : List ℕ) where
-  pub begin-recorded : (c o t new old pairs : List ℕ) → Through callWritten 1 r log (sized c and sized o and tableSized t and paired pairs) (c ∷ o ∷ t ∷ []) (beginLeaves false r c o t new old pairs) (beginRecorded false r log c o t new old pairs)
+  pub begin-recorded : (c o t new old pairs : List ℕ) →
+      Through callWritten 1 r log (sized c and sized o and tableSized t and paired pairs) (c ∷ o ∷ t ∷ [])
+      (beginLeaves false r c o t new old pairs) (beginRecorded false r log c o t new old pairs)
   unfolding beginLeaves beginRecorded beginKind stepWith gateOf gated pick
   begin-recorded c o t new old pairs = joined callWritten 1 r log (begin (length new) (length old) (length pairs / 2)) _ _ _ unwritten-calls (λ b. refl) (λ b e. rw e)
 
-  pub begin-structural-recorded : (c o t new old pairs : List ℕ) → Through callWritten 2 r log (sized c and sized o and tableSized t and paired pairs) (c ∷ o ∷ t ∷ []) (beginLeaves true r c o t new old pairs) (beginRecorded true r log c o t new old pairs)
+  pub begin-structural-recorded : (c o t new old pairs : List ℕ) →
+      Through callWritten 2 r log (sized c and sized o and tableSized t and paired pairs) (c ∷ o ∷ t ∷ [])
+      (beginLeaves true r c o t new old pairs) (beginRecorded true r log c o t new old pairs)
   unfolding beginLeaves beginRecorded beginKind stepWith gateOf gated pick
   begin-structural-recorded c o t new old pairs = joined callWritten 2 r log (beginStructural (length new) (length old) (length pairs / 2)) _ _ _ unwritten-calls (λ b. refl) (λ b e. rw e)
 
@@ -55,30 +59,39 @@ module _ (r : Record) (log : List ℕ) where
   unfolding askRollbackRecorded stepWith step gateOf gated pick
   ask-rollback-recorded = joined stepWritten 7 r log askRollback _ _ _ unwritten-steps (λ b. refl) (λ b e. rw e)
 
-  pub report-structure-recorded : (c o : List ℕ) (k : ℕ) (x : Outcome) (new old : List ℕ) → Through stepWritten 4 r log (sized c and sized o) (c ∷ o ∷ []) (reportStructureLeaves r c o k x new old) (reportStructureRecorded r log c o k x new old)
+  pub report-structure-recorded : (c o : List ℕ) (k : ℕ) (x : Outcome) (new old : List ℕ) →
+      Through stepWritten 4 r log (sized c and sized o) (c ∷ o ∷ []) (reportStructureLeaves r c o k x new old)
+      (reportStructureRecorded r log c o k x new old)
   unfolding reportStructureLeaves reportStructureRecorded stepWith gateOf gated reportGate behind pick
   report-structure-recorded c o k x new old = joined stepWritten 4 r log (reportStructure k x (length new) (length old)) _ _ _ unwritten-steps (λ b. refl) (λ b e. rw e)
 
-  pub report-update-recorded : (t : List ℕ) (k : ℕ) (x : Outcome) (value : ℕ) → Through stepWritten 6 r log (tableSized t) (t ∷ []) (reportUpdateLeaves r t k x value) (reportUpdateRecorded r log t k x value)
+  pub report-update-recorded : (t : List ℕ) (k : ℕ) (x : Outcome) (value : ℕ) →
+      Through stepWritten 6 r log (tableSized t) (t ∷ []) (reportUpdateLeaves r t k x value) (reportUpdateRecorded r log t k x value)
   unfolding reportUpdateLeaves reportUpdateRecorded stepWith gateOf gated reportGate behind pick
   report-update-recorded t k x value = joined stepWritten 6 r log (reportUpdate k x) _ _ _ unwritten-steps (λ b. refl) (λ b e. rw e)
 
-  pub report-rollback-recorded : (t : List ℕ) (k : ℕ) (x : Outcome) (value : ℕ) → Through stepWritten 8 r log (tableSized t) (t ∷ []) (reportRollbackLeaves r t k x value) (reportRollbackRecorded r log t k x value)
+  pub report-rollback-recorded : (t : List ℕ) (k : ℕ) (x : Outcome) (value : ℕ) →
+      Through stepWritten 8 r log (tableSized t) (t ∷ []) (reportRollbackLeaves r t k x value) (reportRollbackRecorded r log t k x value)
   unfolding reportRollbackLeaves reportRollbackRecorded stepWith gateOf gated reportGate behind pick
   report-rollback-recorded t k x value = joined stepWritten 8 r log (reportRollback k x) _ _ _ unwritten-steps (λ b. refl) (λ b e. rw e)
 
-  pub commit-recorded : (a c : List ℕ) → Through callWritten 9 r log (sized a and sized c) (a ∷ c ∷ []) (commitLeaves r a c) (commitRecorded r log a c)
+  pub commit-recorded : (a c : List ℕ) →
+      Through callWritten 9 r log (sized a and sized c) (a ∷ c ∷ []) (commitLeaves r a c) (commitRecorded r log a c)
   unfolding commitLeaves commitRecorded stepWith gateOf gated pick
   commit-recorded a c = joined callWritten 9 r log commit _ _ _ unwritten-calls (λ b. refl) (λ b e. rw e)
 
-  pub recover-recorded : (a x : List ℕ) (n : ℕ) → Through callWritten 10 r log (sized a and sized x) (a ∷ x ∷ []) (recoverLeaves r a x n) (recoverRecorded r log a x n)
+  pub recover-recorded : (a x : List ℕ) (n : ℕ) →
+      Through callWritten 10 r log (sized a and sized x) (a ∷ x ∷ []) (recoverLeaves r a x n) (recoverRecorded r log a x n)
   unfolding recoverLeaves recoverRecorded stepWith gateOf gated pick
   recover-recorded a x n = joined callWritten 10 r log (recover n) _ _ _ unwritten-calls (λ b. refl) (λ b e. rw e)
 
-  pub recover-retained-recorded : (a o x : List ℕ) → Through callWritten 11 r log (sized a and sized o and sized x) (a ∷ o ∷ x ∷ []) (recoverRetainedLeaves r a o x) (recoverRetainedRecorded r log a o x)
+  pub recover-retained-recorded : (a o x : List ℕ) →
+      Through callWritten 11 r log (sized a and sized o and sized x) (a ∷ o ∷ x ∷ []) (recoverRetainedLeaves r a o x)
+      (recoverRetainedRecorded r log a o x)
   unfolding recoverRetainedLeaves recoverRetainedRecorded stepWith gateOf gated pick
   recover-retained-recorded a o x = joined callWritten 11 r log recoverRetained _ _ _ unwritten-calls (λ b. refl) (λ b e. rw e)
 
-  pub refresh-recorded : (a x : List ℕ) (n : ℕ) → Through callWritten 12 r log (sized a and sized x) (a ∷ x ∷ []) (refreshLeaves r a x n) (refreshRecorded r log a x n)
+  pub refresh-recorded : (a x : List ℕ) (n : ℕ) →
+      Through callWritten 12 r log (sized a and sized x) (a ∷ x ∷ []) (refreshLeaves r a x n) (refreshRecorded r log a x n)
   unfolding refreshLeaves refreshRecorded stepWith gateOf gated pick
   refresh-recorded a x n = joined callWritten 12 r log (refresh n) _ _ _ unwritten-calls (λ b. refl) (λ b e. rw e)

@@ -1,16 +1,18 @@
 -- Document 01, "Gaps read in the contracts": what upstream leaves open and the steps here decide. t is what a call tells of the
 -- record r. Assumes nothing.
-use Prim.Native.Nat.{ℕ, _+_, _≤_, _<_}
+use Prim.Native.Nat.{ℕ, _+_, _/_, _≤_, _<_}
 use mathlib.Core.Path.{_≡_}
 use mathlib.Core.Bool.{true, false, not}
-use mathlib.Core.List.{[], _∷_}
+use mathlib.Core.List.{List, [], _∷_}
 use mathlib.Core.Logic.{_≢_}
 use lib.Dec.{eqb, ltb}
+use lib.ListN.{length}
 use Rattle.choice.specs.Pick.{_or_}
 use Rattle.phases.specs.Phases.{none, remove, updates, ready, undo, recoverRemove, recovered, hasSuccessor, boundary}
 use Rattle.areas.specs.Areas.{areaSize}
 use Rattle.batch.specs.Batch.{limit}
-use Rattle.record.specs.Answers.{Told}
+use Rattle.record.specs.Answers.{Told, refused}
+use Rattle.record.specs.Leaves.{Leaves}
 use Rattle.record.specs.Fields.{top}
 use Rattle.record.specs.declared.Record.{Record}
 use Rattle.clauses.specs.Keeping.{SameStaged}
@@ -57,6 +59,13 @@ pub data BeginAnswer (r : Record) (c o n : ℕ) : ℕ → Type 0 where
   tooLong : r .staged ≡ false → r .revision ≢ top → ltb areaSize c or ltb areaSize o ≡ true → BeginAnswer r c o n 8
   tooMany : r .staged ≡ false → r .revision ≢ top → c ≤ areaSize → o ≤ areaSize → limit < n → BeginAnswer r c o n 9
   begins : CanBegin r c o n → BeginAnswer r c o n 0
+
+-- and a refused one holds all that it was given, while one that is performed starts the batch at zero: v is what a begin leaves that is
+-- lent the candidate and recovery areas c and o and the table t, with two payloads and the pairs
+pub record Rejects (r : Record) (c o t new old pairs : List ℕ) (v : Leaves) : Type 0 where
+  pub answered : BeginAnswer r (length new) (length old) (length pairs / 2) (v .told .number)
+  pub same : refused (v .told .number) ≡ true → (v .told .state ≡ r) × (v .lent ≡ c ∷ o ∷ t ∷ [])
+  pub zero : v .told .number ≡ 0 → (v .told .state .applied ≡ 0) × (v .told .state .attempted ≡ 0) × (v .told .state .restoring ≡ false)
 
 -- "`recover_with`: which error is open": here each answer has its case, for both recoveries, to a payload of length n
 pub data RecoverAnswer (r : Record) (n : ℕ) : ℕ → Type 0 where

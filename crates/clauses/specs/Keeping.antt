@@ -25,7 +25,8 @@ pub record SameBatch (r s : Record) : Type 0 where
   pub attempted : s .attempted ≡ r .attempted
   pub restoring : s .restoring ≡ r .restoring
 
--- C89, C100, C171: `new.wf()`; C90, C101, C172: `new.accepted() == old.accepted()`; C91, C102, C173: `new.version() == old.version()`
+-- `new.wf()` (C89, C100, C123, C132, C144, C160, C171), `new.accepted() == old.accepted()` (C90, C101, C125, C135, C145, C161, C172) and
+-- `new.version() == old.version()` (C91, C102, C126, C136, C146, C162, C173)
 pub record Framed (r : Record) (t : Told) : Type 0 where
   pub wf : whole (t .state) ≡ true
   pub accepted : t .state .accepted ≡ r .accepted
