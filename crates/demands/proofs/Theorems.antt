@@ -64,7 +64,7 @@ module _ (sized : Bool) (v s l : ℕ) (m : v ≤ top) (o : openStep sized v s l 
   abbrev seen : Watch
   seen = watch unwatched (heard (openStep sized v s l .state) cs)
 
-  good : Good seen now
+  pub good : Good seen now
   good = let x = opened sized v s l o in rw (x .0) (good-chain unwatched (opening v s l) cs (good-opening v s l m (x .1)))
 
   -- "the revision is the opening one plus the successful commits"

@@ -1,0 +1,116 @@
+-- A structure report that is taken goes on by one phase; and which phases have a successor. Assumes nothing.
+use Prim.Native.Nat.{ℕ, _≤_, _<_}
+use mathlib.Core.Path.{_≡_, refl, sym, _∙_, ap}
+use mathlib.Core.Bool.{Bool, true, false}
+use mathlib.Core.Logic.{_≢_}
+use native.Mathlib.Omega.{arith}
+use lib.Dec.{eqb}
+use borrow.Author.Tests.{eqb-true}
+use Rattle.choice.specs.Pick.{pick, _or_}
+use Rattle.choice.proofs.Tests.{either, neither}
+use Rattle.phases.specs.Phases.{hasSuccessor, successor, boundary}
+use Rattle.phases.specs.declared.Next.the-variants.{To}
+use Rattle.record.specs.Live.{isLive, structure}
+use Rattle.record.specs.Fields.{top, spent}
+use Rattle.record.specs.declared.Record.{Record}
+use Rattle.record.specs.declared.Live.{Live}
+use Rattle.wholeness.specs.Whole.{whole}
+use Rattle.reporting.specs.Done.{advanced}
+use Rattle.reporting.specs.Reports.{storing}
+use Rattle.demands.proofs.Leaf.{Apart}
+use Rattle.demands.proofs.Facts.{Calm, tests, byCase}
+use Rattle.demands.proofs.Facts.Calm.{on, off}
+use Rattle.demands.proofs.Reading.{whole-facts, apart-of}
+use Rattle.demands.proofs.Testing.{ranges, right}
+use Rattle.demands.proofs.Wholeness.{left, successor-test}
+use Rattle.demands.proofs.Tickets.{onStructure}
+use Rattle.demands.proofs.Moves.{goes-up, goes-down}
+use Rattle.clauses.specs.Structure.{Stepping, Advances}
+use Rattle.clauses.proofs.Splitting.{nope}
+
+-- a phase is staged
+pub calm-staged : {s : Bool} {v p n : ℕ} {l : Live} → Calm s v p n l → p ≢ 0 → s ≡ true
+calm-staged (on e h) n = e
+calm-staged (off e h z q l) n = absurd (n z)
+
+-- 0, 5 and 8 have no successor
+pub no-successor : {P : Type 0} (p : ℕ) → eqb p 0 or eqb p 5 or eqb p 8 ≡ true → hasSuccessor p ≡ true → P
+no-successor p e s =
+    let y = apart-of p s in
+    either e (λ i. either i (λ (j : eqb p 0 ≡ true). absurd (omega (tests, y .not0))) (λ (j : eqb p 5 ≡ true). absurd (omega (tests, y .not5))))
+    (λ (i : eqb p 8 ≡ true). absurd (omega (tests, y .not8)))
+
+-- 7 and 13 are boundaries
+pub at-boundary : (p : ℕ) → eqb p 7 or eqb p 13 ≡ true → boundary p ≡ true
+unfolding boundary
+at-boundary p e = either e (λ i. left _ (right _ i)) (λ i. right _ i)
+
+-- nor have these
+pub ended : {P : Type 0} (p : ℕ) → eqb p 7 or eqb p 13 ≡ true → hasSuccessor p ≡ true → P
+ended p e s =
+    let y = apart-of p s in
+    either e (λ (j : eqb p 7 ≡ true). absurd (omega (tests, y .not7))) (λ (j : eqb p 13 ≡ true). absurd (omega (tests, y .not13)))
+
+-- and none is both
+pub exclusive : {P : Type 0} (p : ℕ) → eqb p 0 or eqb p 5 or eqb p 8 ≡ true → eqb p 7 or eqb p 13 ≡ true → P
+unfolding _or_
+exclusive p e i = either {a = eqb p 7} {b = eqb p 13} i (λ j. nope (rw (eqb-true p 7 j) at e)) (λ j. nope (rw (eqb-true p 13 j) at e))
+
+-- any other phase has one
+pub has-one : (p : ℕ) → p ≤ 13 → eqb p 0 or eqb p 5 or eqb p 8 ≡ false → eqb p 7 or eqb p 13 ≡ false → hasSuccessor p ≡ true
+has-one p m e d =
+    let x = neither e in
+    let y = neither (x .0) in
+    let z = neither d in
+    successor-test p m (omega (tests, y, z, x .1))
+
+module _ (r : Record) (m : r .revision ≤ top) (w : whole r ≡ true) (t : ℕ) (l : isLive structure t (r .live) ≡ true) where
+  apart : Apart (r .phase .number)
+  apart = onStructure (whole-facts r m w) l .apart
+
+  pub succeeds : hasSuccessor (r .phase .number) ≡ true
+  succeeds = successor-test _ (ranges (whole-facts r m w .stage) .bound) apart
+
+  pub onwards : (c o : ℕ) → Advances r (advanced (spent (storing c o r)))
+  onwards c o =
+      let q = spent (storing c o r) in
+      byCase 6 (r .phase .number) (λ (j : 6 < r .phase .number). rw (goes-down q succeeds j) record {
+        phase = refl;
+        forward = λ i. absurd (omega arith);
+        forward-stays = λ i. refl;
+        back = λ i. refl;
+        back-stays = λ i. absurd (omega arith);
+        spent = refl;
+        batch = search;
+        staged = refl;
+        accepted = refl;
+        version = refl;
+      }) (λ (j : r .phase .number ≤ 6). rw (goes-up q succeeds j) record {
+        phase = refl;
+        forward = λ i. refl;
+        forward-stays = λ i. absurd (omega arith);
+        back = λ i. absurd (omega arith);
+        back-stays = λ i. refl;
+        spent = refl;
+        batch = search;
+        staged = refl;
+        accepted = refl;
+        version = refl;
+      })
+
+  pub stepping-on : {s : Record} → Advances r s → Stepping r s
+  unfolding successor pick
+  stepping-on x =
+      let b = calm-staged (whole-facts r m w .calm) (apart .not0) in
+      record {
+        c176 = λ n. apart .not0;
+        c177 = λ n. rw succeeds (ap (λ (k : ℕ). To (record { number = k })) (sym (x .phase)));
+        c178 = λ n. b;
+        c179 = λ n. x .staged ∙ b;
+        c181 = λ n. apart .not0;
+        c182 = λ n. byCase 6 (r .phase .number) (λ i. absurd (n (x .forward-stays i))) (x .forward);
+        c183 = λ n. omega (arith, x .phase);
+        c184 = λ n. apart .not0;
+        c185 = λ n. byCase 6 (r .phase .number) (x .back) (λ i. absurd (n (x .back-stays i)));
+        c186 = λ n. omega (arith, x .phase);
+      }

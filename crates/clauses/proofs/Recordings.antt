@@ -1,0 +1,84 @@
+-- What the recorder does about any step: the law behind the clauses of all twelve recorded calls. Assumes nothing.
+use Prim.Native.Nat.{ℕ}
+use mathlib.Core.Path.{_≡_, refl, sym, ap, subst}
+use mathlib.Core.Bool.{Bool, true, false, not}
+use mathlib.Core.List.{List, _∷_}
+use mathlib.Core.Logic.{_≢_}
+use borrow.Author.Tests.{not-true, not-false}
+use Rattle.choice.specs.Pick.{_and_}
+use Rattle.choice.proofs.Picks.{yes, no}
+use Rattle.record.specs.Answers.{Told, refused, refusalNumber, refuse}
+use Rattle.record.specs.Leaves.{Leaves, leaves, moving}
+use Rattle.record.specs.declared.Record.{Record}
+use Rattle.record.specs.declared.Refusal.{Refusal}
+use Rattle.record.specs.declared.Refusal.the-variants.{BadArea, Damaged}
+use Rattle.record.proofs.Saying.{refused-number}
+use Rattle.wholeness.specs.Whole.{whole}
+use Rattle.log.specs.Log.{sound, appended}
+use Rattle.recording.specs.Recorded.{withLog, callWritten, recorded}
+use Rattle.recording.proofs.Through.{fit, same-step}
+use Rattle.demands.specs.Calls.{Call, stepWith, step}
+use Rattle.demands.proofs.Unseen.{quiet}
+use Rattle.demands.proofs.Testing.{not-yes}
+use Rattle.demands.proofs.Granting.{clash}
+use Rattle.clauses.specs.Recording.{unlogged, Recorded, Through}
+use Rattle.clauses.proofs.Splitting.{split}
+use Rattle.clauses.proofs.Refusals.{refused-equal}
+
+-- any step that a refusal leaves as it was
+pub records : (written : ℕ → Bool) (kind : ℕ) (t : Told) (r : Record) (log : List ℕ) (lent moved : List (List ℕ)) → (refused (t .number) ≡ true → t .state ≡ r) →
+    Recorded written kind r log lent (moving t lent moved) (recorded written kind t r log lent moved)
+unfolding recorded appended
+records written kind t r log lent moved f =
+    split (Recorded written kind r log lent (moving t lent moved)) _ (λ e. record {
+      c264 = λ n. refl;
+      no-room = λ i. clash _ i (not-true _ e);
+      c267 = λ i. clash _ i (not-true _ e);
+      unwritten = λ i. refl;
+      c305 = λ i. (f i, sym (yes _ i refl));
+      c305-log = λ i. refl;
+    }) (λ e₁.
+    split (Recorded written kind r log lent (moving t lent moved)) _ (λ e. record {
+      c264 = λ n. absurd (n refl);
+      no-room = λ i j. refl;
+      c267 = λ i j. clash _ e j;
+      unwritten = λ i. refl;
+      c305 = λ i. (refl, refl);
+      c305-log = λ i. refl;
+    }) (λ e₂. record {
+      c264 = λ n. refl;
+      no-room = λ i j. clash _ j e₂;
+      c267 = λ i j s. sym (no _ (ap not s) (no _ e₂ refl));
+      unwritten = λ i. clash _ (not-false _ e₁) i;
+      c305 = λ i. (f i, sym (yes _ i refl));
+      c305-log = λ i. clash _ (not-false _ e₁) i;
+    }))
+
+-- what holds of a call without a log holds through one, the log aside
+pub through : (P : Leaves → Type 0) {written : ℕ → Bool} {kind : ℕ} {r : Record} {log : List ℕ} {lent : List (List ℕ)} {inner v : Leaves} →
+    Recorded written kind r log lent inner v → v .told .number ≢ 12 → P inner → P (unlogged v)
+through P x n p = subst P (sym (x .c264 n)) p
+
+-- in the calls that are written only where they answer 0, no refusal is
+pub refused-unwritten : (n : ℕ) → refused n ≡ true → callWritten n ≡ false
+unfolding callWritten
+refused-unwritten n e = quiet n e .done
+
+module _ (written : ℕ → Bool) (kind : ℕ) (r : Record) (log : List ℕ) (c : Call) (fits : Bool) (lent moved : List (List ℕ)) where
+  -- a refusal that is not written leaves all as it was
+  silent : (why : Refusal) → written (refusalNumber why) ≡ false → recorded written kind (refuse why r) r log lent moved ≡ leaves (refuse why r) (log ∷ lent)
+  unfolding recorded
+  silent why e = sym (yes _ (not-yes _ e) (ap (λ (l : List (List ℕ)). leaves (refuse why r) (log ∷ l)) (yes _ (refused-number why) refl)))
+
+  -- a step with the log lent besides, which is refused 6 and 7 by its two tests
+  pub joined : (written 6 ≡ false) × (written 7 ≡ false) → ((b : Bool) → stepWith false b r c ≡ refuse BadArea r) → ((b : Bool) → b and whole r ≡ false → stepWith true b r c ≡ refuse Damaged r) →
+      Through written kind r log fits lent (moving (stepWith fits true r c) lent moved) (recorded written kind (stepWith (withLog fits log .sized) (withLog fits log .sound) r c) r log lent moved)
+  unfolding withLog step
+  joined u p q = record {
+    bad = λ z. rw (z, p (sound log)) (silent BadArea (u .0));
+    damaged = λ z e. rw (z, q (sound log) e) (silent Damaged (u .1));
+    ready = λ z h.
+        subst (λ (t : Told). Recorded written kind r log lent (moving (stepWith fits true r c) lent moved) (recorded written kind t r log lent moved))
+        (same-step (λ a b. stepWith a b r c) fits log z h)
+        (records written kind (stepWith fits true r c) r log lent moved (rw (fit fits log z) (refused-equal r c)));
+  }

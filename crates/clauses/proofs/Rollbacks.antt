@@ -1,0 +1,58 @@
+-- `poll_rollback`, clause by clause: of the asking and of the report. Assumes nothing.
+use Prim.Native.Nat.{ℕ, _≤_, _<_}
+use mathlib.Core.Path.{_≡_, refl, sym, _∙_}
+use mathlib.Core.Bool.{true, false}
+use native.Mathlib.Omega.{arith}
+use borrow.Author.Tests.{leb-true}
+use Rattle.choice.proofs.Tests.{tests, never}
+use Rattle.record.specs.Answers.{Told}
+use Rattle.record.specs.Live.{isLive, rollback}
+use Rattle.record.specs.Fields.{top, spent}
+use Rattle.record.specs.declared.Record.{Record}
+use Rattle.record.specs.declared.Outcome.{Outcome}
+use Rattle.record.specs.declared.Outcome.the-variants as O
+use Rattle.wholeness.specs.Whole.{whole}
+use Rattle.asking.specs.Asks.{turned, askRollbackOwn}
+use Rattle.reporting.specs.Done.{leaving, rollbackDone}
+use Rattle.reporting.specs.Reports.{reported}
+use Rattle.demands.specs.Calls.{step}
+use Rattle.demands.specs.Calls.Call.{askRollback, reportRollback}
+use Rattle.demands.proofs.Own.{own}
+use Rattle.demands.proofs.Reading.{whole-facts}
+use Rattle.demands.proofs.Testing.{ranges}
+use Rattle.demands.proofs.Tickets.{onRollback}
+use Rattle.clauses.specs.Keeping.{gained, SameStaged, Framed}
+use Rattle.clauses.specs.Polls.{unfinished, RollbackClauses}
+use Rattle.clauses.proofs.Splitting.{Kept, nope, by, on-step}
+
+module _ (r : Record) (m : r .revision ≤ top) (w : whole r ≡ true) where
+  abbrev Clauses : Told → Type 0
+  Clauses = RollbackClauses r
+
+  restores : {t : Told} → Framed r t × SameStaged r (t .state) → t .state .restoring ≡ true → (t .number ≡ 24 → t .state .entries ≡ 0) →
+      (unfinished (t .number) ≡ true → 0 < t .state .entries) → Clauses t
+  restores x v f g = record { framed = x .0; c103 = x .1; c104 = λ i. v; c105 = f; c106 = g }
+
+  -- a refusal that a clause gains
+  stays : {t : Told} → Framed r t × SameStaged r (t .state) → gained (t .number) ≡ true → unfinished (t .number) ≡ false → t .number ≤ 13 → Clauses t
+  stays x g u n = record { framed = x .0; c103 = x .1; c104 = λ i. never (sym g ∙ i); c105 = λ i. absurd (omega arith); c106 = λ i. never (sym i ∙ u) }
+
+  pub rollback-asked : Clauses (step r askRollback)
+  unfolding own askRollbackOwn turned unfinished gained
+  rollback-asked = let x = ranges (whole-facts r m w .stage) .turned in on-step Clauses r askRollback m w
+      (by Clauses _ (λ e k. restores (search) (x .behind (omega tests)) (λ i. x .empty (leb-true _ _ e)) nope) (λ e₁.
+      by Clauses _ (λ e k. stays (search) refl refl (omega arith)) (λ e₂.
+      by Clauses _ (λ e k. restores (search) refl (λ i. omega tests) nope)
+      (λ e₃ k. restores (search) refl (λ i. absurd (omega arith)) (λ i. omega tests)))))
+
+  module _ (t : ℕ) (l : isLive rollback t (r .live) ≡ true) where
+    rollback-taken : (x : Outcome) → Kept Clauses (reported x (spent r) (rollbackDone (spent r)))
+    unfolding reported rollbackDone leaving unfinished
+    rollback-taken O.Waiting k = let y = onRollback (whole-facts r m w) l in restores (search) (y .behind) (λ i. absurd (omega arith)) (λ i. y .some)
+    rollback-taken (O.Failed code) k = let y = onRollback (whole-facts r m w) l in restores (search) (y .behind) (λ i. absurd (omega arith)) (λ i. y .some)
+    rollback-taken O.Done k = let y = onRollback (whole-facts r m w) l in by Clauses _ (λ e k. restores (search) (y .behind) (λ i. omega tests) nope)
+        (λ e k. restores (search) (y .behind) (λ i. absurd (omega arith)) nope) k
+
+  pub rollback-reported : (t : ℕ) (x : Outcome) → Clauses (step r (reportRollback t x))
+  unfolding own gained unfinished
+  rollback-reported t x = on-step Clauses r (reportRollback t x) m w (by Clauses _ (λ e. rollback-taken t e x) (λ e k. stays (search) refl refl (omega arith)))

@@ -1,0 +1,77 @@
+-- `begin`, `begin_structural`, `pending_mut` and `work`, clause by clause. Assumes nothing.
+use Prim.Native.Nat.{ℕ, _≤_}
+use mathlib.Core.Path.{_≡_, refl}
+use mathlib.Core.Bool.{Bool, true, false}
+use native.Mathlib.Omega.{arith}
+use borrow.Author.Tests.{eqb-true, ltb-false, not-true}
+use Rattle.choice.specs.Pick.{pick}
+use Rattle.choice.proofs.Picks.{yes, no}
+use Rattle.choice.proofs.Tests.{tests, never, eqb-ne}
+use Rattle.phases.specs.Phases.{none, remove}
+use Rattle.record.specs.Answers.{Told, refusalNumber, refuse}
+use Rattle.record.specs.Fields.{top}
+use Rattle.record.specs.declared.Record.{Record}
+use Rattle.record.specs.declared.Refusal.{Refusal}
+use Rattle.record.specs.declared.Refusal.the-variants.{Pending, Capacity, TooLong, TooMany}
+use Rattle.wholeness.specs.Whole.{whole}
+use Rattle.staging.specs.Beginning.{firstPhase, begun, beginOwn, editOwn}
+use Rattle.demands.specs.Calls.{step}
+use Rattle.demands.specs.Calls.Call.{begin, beginStructural, edit}
+use Rattle.demands.proofs.Own.{own}
+use Rattle.demands.proofs.Classify.{first, first-structural}
+use Rattle.demands.proofs.Granting.{clash}
+use Rattle.clauses.specs.Keeping.{gained, SameBatch, Framed}
+use Rattle.clauses.specs.Staging.{CanBegin, BeginClauses, EditClauses}
+use Rattle.clauses.proofs.Splitting.{Kept, refusal-real, performed-fine, too-long, fitting, by, on-step}
+
+module _ (r : Record) (c o n : ℕ) where
+  module _ (p : ℕ) where
+    abbrev Clauses : Told → Type 0
+    Clauses = BeginClauses p r c o n
+
+    refuses : (why : Refusal) → (CanBegin r c o n → ⊥) → (gained (refusalNumber why) ≡ false → refusalNumber why ≡ pick (r .staged) 1 3) → Kept Clauses (refuse why r)
+    refuses why f g k = record {
+      framed = search;
+      c147 = (λ i. absurd (refusal-real why i), λ x. absurd (f x));
+      ok = λ i. absurd (refusal-real why i);
+      c154 = λ i. refl;
+      c157 = λ i. g;
+    }
+
+    begins : (structural : Bool) → firstPhase structural ≡ p → Kept Clauses (beginOwn structural r c o n)
+    unfolding beginOwn gained begun
+    begins structural h =
+        by Clauses _ (λ e. refuses Pending (λ x. clash _ e (x .idle)) (λ g. yes _ e refl)) (λ e₁.
+        by Clauses _ (λ e. refuses Capacity (λ x. x .room (eqb-true _ _ e)) (λ g. no _ e₁ refl)) (λ e₂.
+        by Clauses _ (λ e. refuses TooLong (λ x. too-long c o e (x .candidate) (x .recovery)) never) (λ e₃.
+        by Clauses _ (λ e. refuses TooMany (λ x. omega (tests, x .few)) never) (λ e₄ k. record {
+          framed = search;
+          c147 = (λ i. let x = fitting c o e₃ in record { idle = e₁; room = eqb-ne _ _ e₂; candidate = x .0; recovery = x .1; few = ltb-false _ _ e₄ }, λ x. refl);
+          ok = λ i. record { c148 = h; c149 = refl; c149-candidate = refl; c149-recovery = refl; c150 = refl; c151 = refl; c152 = refl; c153 = refl };
+          c154 = performed-fine;
+          c157 = performed-fine;
+        }))))
+
+  module _ (m : r .revision ≤ top) (w : whole r ≡ true) where
+    pub begin-clauses : BeginClauses none r c o n (step r (begin c o n))
+    unfolding own
+    begin-clauses = on-step (Clauses none) r (begin c o n) m w (begins none false first)
+
+    pub begin-structural-clauses : BeginClauses remove r c o n (step r (beginStructural c o n))
+    unfolding own
+    begin-structural-clauses = on-step (Clauses remove) r (beginStructural c o n) m w (begins remove true first-structural)
+
+module _ (r : Record) (c o : ℕ) where
+  abbrev Edits : Told → Type 0
+  Edits = EditClauses r c o
+
+  edits : {t : Told} → Framed r t × SameBatch r (t .state) × (t .state .phase ≡ r .phase) × (t .state .forward ≡ r .forward) × (t .state .back ≡ r .back) →
+      (t .number ≡ 0 → (t .state .candidate ≡ c) × (t .state .recovery ≡ o)) → (t .number ≡ 2 → r .staged ≡ false) → (t .number ≡ 2 → t .state .staged ≡ false) → Edits t
+  edits x f g h = record { framed = x .0; c124 = x .1; phase = x .2; forward = x .3; back = x .4; c128 = f; c129 = g; c130 = h }
+
+  pub edit-clauses : r .revision ≤ top → whole r ≡ true → Edits (step r (edit c o))
+  unfolding own editOwn
+  edit-clauses m w = on-step Edits r (edit c o) m w
+      (by Edits _ (λ e k. edits (search) (λ i. absurd (omega arith)) (λ i. not-true _ e) (λ i. not-true _ e)) (λ e₁.
+      by Edits _ (λ e k. edits (search) (λ i. absurd (omega arith)) (λ i. absurd (omega arith)) (λ i. absurd (omega arith)))
+      (λ e₂ k. edits (search) (λ i. (refl, refl)) (λ i. absurd (omega arith)) (λ i. absurd (omega arith)))))

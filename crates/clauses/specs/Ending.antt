@@ -1,0 +1,105 @@
+-- The clauses of `commit`, `recover`, `recover_with`, `refresh`, `save_stamp` and `accepts_save`: t is what the call tells. Assumes
+-- nothing.
+use Prim.Native.Nat.{ℕ, _+_, _≤_}
+use mathlib.Core.Path.{_≡_}
+use mathlib.Core.Bool.{true, false}
+use mathlib.Core.List.{[], _∷_}
+use mathlib.Core.Logic.{_≢_, _↔_}
+use lib.Dec.{eqb}
+use Rattle.choice.specs.Pick.{pick, _or_}
+use Rattle.areas.specs.Areas.{areaSize}
+use Rattle.phases.specs.Phases.{none, ready, recovered}
+use Rattle.record.specs.Answers.{Told, refused}
+use Rattle.record.specs.declared.Record.{Record}
+use Rattle.wholeness.specs.Whole.{whole, complete}
+use Rattle.clauses.specs.Keeping.{gained, SameStaged, SameBatch}
+
+-- staged, the batch complete, and the phase none or `Ready`
+pub record CanCommit (r : Record) : Type 0 where
+  pub staged : r .staged ≡ true
+  pub complete : complete r ≡ true
+  pub place : eqb (r .phase .number) none or eqb (r .phase .number) ready ≡ true
+
+-- what ok implies
+pub record Committed (r : Record) (t : Told) : Type 0 where
+  -- with a phase, all forward stages are done
+  pub c193 : r .phase .number ≢ none → r .forward ≡ 5
+  pub c194 : t .state .revision ≡ r .revision + 1
+  pub c195 : t .state .staged ≡ false
+  -- the accepted payload is the candidate, by its length
+  pub c196 : t .state .accepted ≡ r .candidate
+  -- the answer has the lengths of the old accepted and the recovery payload, and the entries (also C198, C199)
+  pub c197 : t .values ≡ r .accepted ∷ r .recovery ∷ r .entries ∷ []
+  -- as many applied as entries
+  pub c200 : r .applied ≡ r .entries
+
+pub record CommitClauses (r : Record) (t : Told) : Type 0 where
+  -- `new.wf()`
+  pub c189 : whole (t .state) ≡ true
+  -- ok exactly if ..
+  pub c190 : (t .number ≡ 0) ↔ CanCommit r
+  -- an error implies `new == old`
+  pub c191 : refused (t .number) ≡ true → t .state ≡ r
+  -- an error is `Idle` if not staged and `NotReady` if staged
+  pub c192 : refused (t .number) ≡ true → t .number ≡ pick (r .staged) 4 2
+  -- C193 to C200
+  pub ok : t .number ≡ 0 → Committed r t
+
+-- staged, no entries, the phase none or `Recovered`, and not 8
+pub record CanRecover (r : Record) (n : ℕ) : Type 0 where
+  pub staged : r .staged ≡ true
+  pub empty : r .entries ≡ 0
+  pub place : eqb (r .phase .number) none or eqb (r .phase .number) recovered ≡ true
+  pub fits : n ≤ areaSize
+
+pub record Recovered (r : Record) (n : ℕ) (t : Told) : Type 0 where
+  -- with a phase, all recovery stages are done (also C222)
+  pub c207 : r .phase .number ≢ none → r .back ≡ 4
+  -- the accepted payload is the recovered one, by its length (also C221)
+  pub c208 : t .state .accepted ≡ n
+  -- not staged (also C218)
+  pub c209 : t .state .staged ≡ false
+  -- the answer has the lengths of the old accepted, candidate and recovery payloads (also C211, C219, C220)
+  pub c210 : t .values ≡ r .accepted ∷ r .candidate ∷ r .recovery ∷ []
+
+-- `recover` with a payload of length n, and `recover_with`, whose n is the retained one's
+pub record RecoverClauses (r : Record) (n : ℕ) (t : Told) : Type 0 where
+  -- `new.wf()` (also C214)
+  pub c202 : whole (t .state) ≡ true
+  -- the version stays (also C215)
+  pub c203 : t .state .revision ≡ r .revision
+  -- ok exactly if .. (also C216)
+  pub c204 : (t .number ≡ 0) ↔ CanRecover r n
+  -- an error implies `new == old` (also C217)
+  pub c205 : refused (t .number) ≡ true → t .state ≡ r
+  -- which error `recover_with` gives is open upstream: here 2 if not staged, else 4 (or 8)
+  pub error : refused (t .number) ≡ true → gained (t .number) ≡ false → t .number ≡ pick (r .staged) 4 2
+  -- C207 to C211, C218 to C222
+  pub ok : t .number ≡ 0 → Recovered r n t
+
+pub record RefreshClauses (r : Record) (n : ℕ) (t : Told) : Type 0 where
+  -- `new.wf()`
+  pub c224 : whole (t .state) ≡ true
+  pub c225 : SameBatch r (t .state)
+  pub c226 : t .state .revision ≡ r .revision
+  pub c227 : SameStaged r (t .state)
+  -- ok exactly if not staged, and not 8
+  pub c228 : (t .number ≡ 0) ↔ ((r .staged ≡ false) × (n ≤ areaSize))
+  -- ok implies that the accepted payload is the given one, by its length, and answers with the old one's
+  pub c229 : t .number ≡ 0 → t .state .accepted ≡ n
+  pub c230 : t .number ≡ 0 → t .values ≡ r .accepted ∷ []
+  -- an error implies `new == old`
+  pub c231 : refused (t .number) ≡ true → t .state ≡ r
+
+-- some exactly if not staged; then the domain and the version
+pub record StampClauses (r : Record) (domain : ℕ) (t : Told) : Type 0 where
+  pub c115 : (t .number ≡ 0) ↔ (r .staged ≡ false)
+  pub c116 : t .number ≡ 0 → t .values ≡ domain ∷ r .revision ∷ []
+  pub error : refused (t .number) ≡ true → t .number ≡ 1
+  pub kept : t .state ≡ r
+
+-- true exactly if not staged, and both numbers agree
+pub record CheckClauses (r : Record) (domain d v : ℕ) (t : Told) : Type 0 where
+  pub c119 : (t .values ≡ 1 ∷ []) ↔ ((r .staged ≡ false) × (domain ≡ d) × (r .revision ≡ v))
+  pub answered : t .number ≡ 0
+  pub kept : t .state ≡ r

@@ -1,0 +1,47 @@
+-- What the clauses say of payloads, areas and updates: a payload is the first bytes of its area, and what a call is lent moves with
+-- its step or stays. Assumes nothing.
+use Prim.Native.Nat.{ℕ, _+_, _*_, _/_, _<_}
+use mathlib.Core.Path.{_≡_}
+use mathlib.Core.Bool.{Bool, true, false}
+use mathlib.Core.List.{List, []}
+use lib.ListN.{length, getD, take}
+use Rattle.batch.specs.Batch.{identityAt, payloadAt}
+use Rattle.record.specs.Answers.{Told, refused, refuse}
+use Rattle.record.specs.Leaves.{Leaves}
+use Rattle.record.specs.declared.Record.{Record}
+use Rattle.record.specs.declared.Refusal.the-variants.{BadArea}
+
+-- document 01: "a payload being the first 0 to 4,096"
+abbrev pub payload : ℕ → List ℕ → List ℕ
+payload n area = take n area
+
+-- a call on r that tells t where all sizes are right: what it is lent stays if it is refused (C154, C163, C191, C205, C206, C217,
+-- C231, C232, C130, C140, C155, C156), and else is what its step moves it to
+pub record Lends (r : Record) (sizes : Bool) (t : Told) (lent moved : List (List ℕ)) (v : Leaves) : Type 0 where
+  pub tells : sizes ≡ true → v .told ≡ t
+  pub bad : sizes ≡ false → v .told ≡ refuse BadArea r
+  pub stays : refused (v .told .number) ≡ true → v .lent ≡ lent
+  pub moves : refused (v .told .number) ≡ false → v .lent ≡ moved
+
+-- C153, C165: the updates of a table are the pairs that were given
+pub record ReadBack (pairs table : List ℕ) : Type 0 where
+  pub identities : (i : ℕ) → 2 * i + 1 < length pairs → identityAt table i ≡ identityAt pairs i
+  pub payloads : (i : ℕ) → 2 * i + 1 < length pairs → payloadAt table i ≡ payloadAt pairs i
+
+-- C26, C80 to C82, C128, C138, C149, C164: the staged payloads are the given ones, the first bytes of their areas
+pub record Stages (new old : List ℕ) (v : Leaves) : Type 0 where
+  pub candidate : payload (v .told .state .candidate) (getD (v .lent) 0 []) ≡ new
+  pub recovery : payload (v .told .state .recovery) (getD (v .lent) 1 []) ≡ old
+
+-- C153, C165: `new.batch().entries() == updates`
+pub record Holds (pairs : List ℕ) (v : Leaves) : Type 0 where
+  pub number : v .told .state .entries ≡ length pairs / 2
+  pub updates : ReadBack pairs (getD (v .lent) 2 [])
+
+-- C94: an identity in the table that is lent stays
+pub record SameIdentities (table : List ℕ) (v : Leaves) : Type 0 where
+  pub identities : (i : ℕ) → identityAt (getD (v .lent) 0 []) i ≡ identityAt table i
+
+-- C108: an opening that is not refused has the given payload in the accepted area
+pub record Opens (given : List ℕ) (v : Leaves) : Type 0 where
+  pub c108 : payload (v .told .state .accepted) (getD (v .lent) 0 []) ≡ given

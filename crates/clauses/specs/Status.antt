@@ -1,0 +1,55 @@
+-- The clauses of `effect_status`, `initialize_effect_status` and `cancel`: v is what link, initialize or cancel leaves. Assumes nothing.
+use Prim.Native.Nat.{ℕ, _/_, _%_, _≤_, _<_}
+use mathlib.Core.Path.{_≡_}
+use mathlib.Core.Bool.{Bool, true, not}
+use mathlib.Core.List.{List}
+use mathlib.Core.Logic.{_≢_, _↔_}
+use lib.ListN.{length, getD}
+use Rattle.choice.specs.Pick.{_and_}
+use Rattle.status.specs.Status.{Marks, live, settled, pending, linked, bytesSound}
+
+-- where 6, 7 and the id's 13 are not given
+pub record Place (groups status : List ℕ) (id : ℕ) : Type 0 where
+  pub same : length groups ≡ length status
+  pub some : 1 ≤ length status
+  pub few : length status ≤ 256
+  pub real : 1 ≤ id
+  pub inside : id < length status
+  pub sound : bytesSound (getD groups id 0) (getD status id 0) ≡ true
+
+-- the byte at the id is the mark, and every other stays
+pub record Sets (status : List ℕ) (id mark : ℕ) (after : List ℕ) : Type 0 where
+  pub there : getD after id 0 ≡ mark
+  pub others : (j : ℕ) → j ≢ id → getD after j 0 ≡ getD status j 0
+  pub size : length after ≡ length status
+
+-- a call that is allowed by the group byte and the status byte, and makes the status byte the next one
+pub record MarkClauses (groups status : List ℕ) (id : ℕ) (allowed : ℕ → ℕ → Bool) (next : ℕ → ℕ) (v : Marks) : Type 0 where
+  -- some exactly if .. (C400, C410)
+  pub c400 : (v .said .number ≡ 0) ↔ (Place groups status id × (allowed (getD groups id 0) (getD status id 0) ≡ true))
+  -- some implies the new byte, and every other as it was (C402, C405 to C407, C412, C388)
+  pub c407 : v .said .number ≡ 0 → Sets status id (next (getD status id 0)) (v .status)
+  -- none implies `new == old`
+  pub c408 : v .said .number ≢ 0 → v .status ≡ status
+
+-- linking: a domain is present, the group is live, the status is not linked
+abbrev pub linkable : Bool → ℕ → ℕ → Bool
+linkable domain group mark = domain and live group and not (linked mark)
+
+-- initializing: linked, live, settled, not pending. Upstream `None` always meets the contract
+abbrev pub initializable : ℕ → ℕ → Bool
+initializable group mark = linked mark and live group and settled group and not (pending group)
+
+-- the flags of a byte, linked, cancelled, initialized and finished: the initialized one is set alone
+pub record Initializes (mark after : ℕ) : Type 0 where
+  pub linked : after % 2 ≡ mark % 2
+  pub cancelled : after / 2 % 2 ≡ mark / 2 % 2
+  pub c412 : after / 4 % 2 ≡ 1
+  pub finished : after / 8 ≡ mark / 8
+
+-- and the cancelled one. Upstream the other flags are free
+pub record Cancels (mark after : ℕ) : Type 0 where
+  pub linked : after % 2 ≡ mark % 2
+  pub c388 : after / 2 % 2 ≡ 1
+  pub initialized : after / 4 % 2 ≡ mark / 4 % 2
+  pub finished : after / 8 ≡ mark / 8
