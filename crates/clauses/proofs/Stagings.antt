@@ -8,9 +8,11 @@ use Rattle.choice.specs.Pick.{pick}
 use Rattle.choice.proofs.Picks.{yes, no}
 use Rattle.choice.proofs.Tests.{tests, never, eqb-ne}
 use Rattle.phases.specs.Phases.{none, remove}
-use Rattle.record.specs.Answers.{Told, refusalNumber, refuse}
+use Rattle.record.specs.Answers.{Told, refusalNumber, answer, refuse}
 use Rattle.record.specs.Fields.{top}
 use Rattle.record.specs.declared.Record.{Record}
+use Rattle.record.specs.declared.Answer.the-variants.{Done}
+use Rattle.record.specs.declared.Was.the-variants.{Nothing}
 use Rattle.record.specs.declared.Refusal.{Refusal}
 use Rattle.record.specs.declared.Refusal.the-variants.{Pending, Capacity, TooLong, TooMany}
 use Rattle.wholeness.specs.Whole.{whole}
@@ -38,19 +40,24 @@ module _ (r : Record) (c o n : ℕ) where
       c157 = λ i. g;
     }
 
+    starts : {q : ℕ} → q ≡ p → CanBegin r c o n → Kept Clauses (answer (Done Nothing) (begun q c o n r))
+    unfolding begun
+    starts h x k = record {
+      framed = search;
+      c147 = (λ i. x, λ y. refl);
+      ok = λ i. record { c148 = h; c149 = refl; c149-candidate = refl; c149-recovery = refl; c150 = refl; c151 = refl; c152 = refl; c153 = refl };
+      c154 = performed-fine;
+      c157 = performed-fine;
+    }
+
     begins : (structural : Bool) → firstPhase structural ≡ p → Kept Clauses (beginOwn structural r c o n)
-    unfolding beginOwn gained begun
+    unfolding beginOwn gained
     begins structural h =
         by Clauses _ (λ e. refuses Pending (λ x. clash _ e (x .idle)) (λ g. yes _ e refl)) (λ e₁.
         by Clauses _ (λ e. refuses Capacity (λ x. x .room (eqb-true _ _ e)) (λ g. no _ e₁ refl)) (λ e₂.
-        by Clauses _ (λ e. refuses TooLong (λ x. too-long c o e (x .candidate) (x .recovery)) never) (λ e₃.
-        by Clauses _ (λ e. refuses TooMany (λ x. omega (tests, x .few)) never) (λ e₄ k. record {
-          framed = search;
-          c147 = (λ i. let x = fitting c o e₃ in record { idle = e₁; room = eqb-ne _ _ e₂; candidate = x .0; recovery = x .1; few = ltb-false _ _ e₄ }, λ x. refl);
-          ok = λ i. record { c148 = h; c149 = refl; c149-candidate = refl; c149-recovery = refl; c150 = refl; c151 = refl; c152 = refl; c153 = refl };
-          c154 = performed-fine;
-          c157 = performed-fine;
-        }))))
+        by Clauses _ (λ e. refuses TooLong (λ x. too-long c o e (x .candidate) (x .recovery)) never) (λ e₃. let x = fitting c o e₃ in
+        by Clauses _ (λ e. refuses TooMany (λ x. omega (tests, x .few)) never)
+        (λ e₄. starts h (record { idle = e₁; room = eqb-ne _ _ e₂; candidate = x .0; recovery = x .1; few = ltb-false _ _ e₄ })))))
 
   module _ (m : r .revision ≤ top) (w : whole r ≡ true) where
     pub begin-clauses : BeginClauses none r c o n (step r (begin c o n))
