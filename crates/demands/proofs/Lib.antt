@@ -29,6 +29,7 @@ pub mod From
 pub mod Courses
 pub mod LoggedSteps
 pub mod LoggedChains
+pub mod LoggedWhole
 pub mod LoggedOpening
 pub mod LoggedExhibit
 pub mod Ties

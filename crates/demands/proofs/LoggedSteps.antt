@@ -54,7 +54,7 @@ module _ (r : Record) (log : List ℕ) (c : Call) where
 
   module _ (h : logSized (length log) ≡ true) (s : sound log ≡ true) where
     -- all being in order, the step is the plain one
-    plain : stepWith (logSized (length log)) (sound log) r c ≡ step r c
+    pub plain : stepWith (logSized (length log)) (sound log) r c ≡ step r c
     unfolding step
     plain = ap (λ (b : Bool). stepWith b (sound log) r c) h ∙ ap (λ (b : Bool). stepWith true b r c) s
 
