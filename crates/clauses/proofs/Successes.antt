@@ -12,9 +12,9 @@ use Rattle.record.specs.Fields.{top}
 use Rattle.record.specs.declared.Record.{Record}
 use Rattle.wholeness.specs.Whole.{complete}
 use Rattle.staging.specs.Opening.{openStep}
-use Rattle.demands.specs.Calls.{Call, step}
+use Rattle.demands.specs.Calls.{step}
 use Rattle.demands.specs.Calls.Call.{commit}
-use Rattle.demands.specs.Chains.{after, heard}
+use Rattle.demands.specs.Sending.{Sent, afterSent, heardSent}
 use Rattle.demands.specs.Watching.{Item, Watch, watch, unwatched}
 use Rattle.demands.specs.Plans.{planAt, firsts}
 use Rattle.demands.proofs.Facts.{Stage, tests, byCase}
@@ -77,15 +77,15 @@ unfolding complete
 not-restoring r e = not-true _ (both e .0)
 
 -- in every chain from an opening that is not refused, a commit that succeeds has as many successes as entries
-module _ (sized : Bool) (v s l : ℕ) (m : v ≤ top) (o : openStep sized v s l .number ≡ 0) (cs : List Call) where
+module _ (sized : Bool) (v s l : ℕ) (m : v ≤ top) (o : openStep sized v s l .number ≡ 0) (ss : List Sent) where
   abbrev now : Record
-  now = after (openStep sized v s l .state) cs
+  now = afterSent (openStep sized v s l .state) ss
 
   abbrev seen : Watch
-  seen = watch unwatched (heard (openStep sized v s l .state) cs)
+  seen = watch unwatched (heardSent (openStep sized v s l .state) ss)
 
   pub committed-successes : step now commit .number ≡ 0 → successes (seen .done) ≡ now .entries
   committed-successes h =
-      let g = good sized v s l m o cs in
+      let g = good sized v s l m o ss in
       let x = commit-clauses now (range (g .is-whole .calm)) (whole-test (g .is-whole)) in
       applied-counts seen now g (g .tied .turning ∙ not-restoring now (x .c190 .0 h .complete)) ∙ x .ok h .c200

@@ -21,7 +21,7 @@ use Rattle.demands.proofs.Testing.{ranges, right, not-yes}
 use Rattle.demands.proofs.Wholeness.{left, successor-test}
 use Rattle.demands.proofs.Chain.{Good}
 use Rattle.demands.proofs.Exactly.{commit-is, recover-is, forward-law, backward-law}
-use Rattle.demands.proofs.Granting.{clash, due-granted}
+use Rattle.demands.proofs.Granting.{clash, granted-whole}
 
 -- until commit, or recovery, succeeds, some asking is due
 record Some (r : Record) : Type 0 where
@@ -82,4 +82,4 @@ asking-law w r g i f b =
     let a = some r (g .is-whole) (g .is-whole .stage)
     (λ j. sym (commit-is (g .is-whole) e) ∙ forward-law w r g i (t ∙ j) .exact ∙ ne-eqb _ _ (f (t ∙ j)))
     (λ j. sym (recover-is (g .is-whole) e) ∙ backward-law w r g i (t ∙ j) .exact ∙ ne-eqb _ _ (b (t ∙ j))) in
-    record { call = a .call; is-due = a .is-due; is-granted = due-granted (a .call) (g .is-whole) (a .is-due) }
+    record { call = a .call; is-due = a .is-due; is-granted = granted-whole (a .call) (g .is-whole) (a .is-due) }

@@ -3,14 +3,17 @@ use Prim.Native.Nat.{_≤_}
 use mathlib.Core.Path.{_≡_}
 use mathlib.Core.Bool.{true}
 use mathlib.Core.List.{List, [], _∷_}
+use Rattle.record.specs.Answers.{Told}
 use Rattle.record.specs.Fields.{top}
 use Rattle.record.specs.declared.Record.{Record}
 use Rattle.wholeness.specs.Whole.{whole}
 use Rattle.demands.specs.Calls.{Call, step}
-use Rattle.demands.specs.Chains.{after, heard}
+use Rattle.demands.specs.Sending.{Sent, answered, afterSent, heardSent}
 use Rattle.demands.specs.Watching.{Watch, watch}
 use Rattle.demands.proofs.Own.{own, whole-step}
+use Rattle.demands.proofs.Leaf.{Leaf}
 use Rattle.demands.proofs.Classify.{leaf}
+use Rattle.demands.proofs.Sending.{sent-leaf}
 use Rattle.demands.proofs.Facts.{Whole}
 use Rattle.demands.proofs.Reading.{whole-facts}
 use Rattle.demands.proofs.Wholeness.{whole-test}
@@ -24,19 +27,26 @@ pub undamaged : {r : Record} (c : Call) → Whole r → step r c ≡ own r c
 undamaged {r} c w = whole-step r c (whole-test w)
 
 -- demand 2: wholeness is kept by every call; the revision is a u64
+module _ (r : Record) (m : r .revision ≤ top) (h : whole r ≡ true) where
+  kept-by : {c : Call} {x : Told} → Leaf r c x → (whole (x .state) ≡ true) × (x .state .revision ≤ top)
+  kept-by l = let y = preserve (whole-facts r m h) l in (whole-test y, range (y .calm))
+
 pub whole-kept : (r : Record) (c : Call) → r .revision ≤ top → whole r ≡ true → (whole (step r c .state) ≡ true) × (step r c .state .revision ≤ top)
-whole-kept r c m h =
-    let w = whole-facts r m h in
-    let x = preserve w (leaf r c) in
-    (whole-test x, range (x .calm))
+whole-kept r c m h = kept-by r m h (leaf r c)
+
+-- and in every chain
+pub whole-chain : (r : Record) (ss : List Sent) → r .revision ≤ top → whole r ≡ true → whole (afterSent r ss) ≡ true
+unfolding afterSent
+whole-chain r [] m h = h
+whole-chain r (s ∷ ss) m h = let x = kept-by r m h (sent-leaf r s) in whole-chain (answered r s .state) ss (x .1) (x .0)
 
 pub record Good (w : Watch) (r : Record) : Type 0 where
   pub is-whole : Whole r
   pub tied : Tied w r
 
-pub good-chain : (w : Watch) (r : Record) (cs : List Call) → Good w r → Good (watch w (heard r cs)) (after r cs)
-unfolding watch heard after
+pub good-chain : (w : Watch) (r : Record) (ss : List Sent) → Good w r → Good (watch w (heardSent r ss)) (afterSent r ss)
+unfolding watch heardSent afterSent
 good-chain w r [] g = g
-good-chain w r (c ∷ cs) g =
-    let l = leaf r c in
-    good-chain _ _ cs (record { is-whole = preserve (g .is-whole) l; tied = tie w (g .is-whole) (g .tied) l })
+good-chain w r (s ∷ ss) g =
+    let l = sent-leaf r s in
+    good-chain _ _ ss (record { is-whole = preserve (g .is-whole) l; tied = tie w (g .is-whole) (g .tied) l })

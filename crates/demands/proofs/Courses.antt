@@ -27,6 +27,8 @@ use Rattle.demands.specs.Chains.{hears, after, heard}
 use Rattle.demands.specs.Watching as W
 use Rattle.demands.specs.Watching.{Watch, sees, watch, unwatched}
 use Rattle.demands.specs.Plans.{planned, plannedBack}
+use Rattle.demands.specs.Starting.{watchOf}
+use Rattle.demands.proofs.Exhibits.{staged, updating}
 
 -- an opening that is not refused
 pub opens : openStep true 7 0 3 .number ≡ 0
@@ -57,6 +59,26 @@ ahead-met = (refl, refl, refl, refl)
 pub back-met : (seen back .running ≡ true) × (seen back .turned ≡ true) × (seen back .started ≡ 2) × (length (seen back .undone) ≡ 1) × (step (after (opening 7 0 3) back) recoverRetained .number ≡ 4)
 unfolding seen back after heard watch sees unwatched W.reported step stepWith pick _and_ _or_ _implies_ hasSuccessor long isLive adopting lengthsFit countsFit stagedFits forwardFits backFits restoringFits liveFits whole complete gateOf gated opening firstPhase begun beginOwn askUpdateOwn askRollbackOwn turned updateDone least leaving rollbackDone behind reportGate reported unrestored recoverRetainedOwn
 back-met = (refl, refl, refl, refl, refl)
+
+-- all undone: a structural transaction of two updates, rolled back with one started: 1 + 4 reports
+pub undone : List Call
+undone =
+    beginStructural 2 2 2 ∷ settles 1 ++ settles 2 ++ settles 3 ++ settles 4
+    ++ askUpdate ∷ askRollback ∷ reportRollback 6 Done ∷ settles 7 ++ settles 8 ++ settles 9 ++ settles 10
+
+pub undone-met : (seen undone .running ≡ true) × (seen undone .turned ≡ true) × (length (seen undone .undone) ≡ plannedBack true (seen undone .started)) × (step (after (opening 7 0 3) undone) recoverRetained .number ≡ 0)
+unfolding seen undone settles after heard watch sees unwatched W.reported step stepWith pick _and_ _or_ _implies_ hasSuccessor successor boundary long isLive adopting lengthsFit countsFit stagedFits forwardFits backFits restoringFits liveFits whole complete gateOf gated opening firstPhase begun beginOwn askStructureOwn askUpdateOwn askRollbackOwn turned onward advanced structureDone least leaving rollbackDone behind reportGate reported reportStructureOwn settled unrestored recoverRetainedOwn
+undone-met = (refl, refl, refl, refl)
+
+-- just begun: nothing is done yet, so that an asking is due
+pub begun-met : (seen (beginStructural 2 2 2 ∷ []) .running ≡ true) × (seen (beginStructural 2 2 2 ∷ []) .turned ≡ false) × (length (seen (beginStructural 2 2 2 ∷ []) .done) ≡ 0)
+unfolding seen after heard watch sees unwatched step stepWith pick _and_ _or_ _implies_ hasSuccessor long lengthsFit countsFit stagedFits forwardFits backFits restoringFits liveFits whole gateOf gated opening firstPhase begun beginOwn
+begun-met = (refl, refl, refl)
+
+-- from a whole record that is staged, in phase 5 with two of three updates done after a report: six of 5 + 3
+pub staged-met : (whole updating ≡ true) × (watch (watchOf updating) (heard updating (reportUpdate 1 Done ∷ [])) .running ≡ true) × (length (watch (watchOf updating) (heard updating (reportUpdate 1 Done ∷ [])) .done) ≡ 6)
+unfolding updating staged watchOf heard watch sees W.reported step stepWith pick _and_ _or_ _implies_ hasSuccessor long isLive adopting lengthsFit countsFit stagedFits forwardFits backFits restoringFits liveFits whole complete gateOf gated opening updateDone behind reportGate reported
+staged-met = (refl, refl, refl)
 
 -- a stamp that is taken
 pub stamp-met : hears (stamp 3) (step (opening 7 0 3) (stamp 3)) .answer ≡ said 0 (3 ∷ 7 ∷ [])

@@ -24,6 +24,7 @@ use Rattle.demands.specs.Promises.{Forward, Backward}
 use Rattle.demands.proofs.Own.{own}
 use Rattle.demands.proofs.Facts.{Stage, Whole, tests, byCase}
 use Rattle.demands.proofs.Facts.Stage.{flat, flatBack, before, updating, after, undoing, backing}
+use Rattle.demands.proofs.Testing.{ranges}
 use Rattle.demands.proofs.Course.{Kind, Course}
 use Rattle.demands.proofs.Course.Kind.{updateOnly, structural}
 use Rattle.demands.proofs.Course.Course.{ahead, behind}
@@ -96,6 +97,16 @@ recover-row u g (before x1 x2 x3 x4 x5 x6) q h o = absurd (omega tests)
 recover-row u g (updating x1 x2 x3 x4 x5) q h o = absurd (omega tests)
 recover-row u g (after x1 x2 x3 x4 x5 x6) q h o = absurd (omega tests)
 
+-- no plan is overrun
+ahead-within : {p f b n a k : ℕ} {v s : Bool} → Stage p f b n a k v → Kind s p → v ≡ false → a ≤ k → k ≤ n → f + a ≤ planned s n
+ahead-within x (updateOnly e y) h o m = let z = ranges x .ahead .start y in rw e (omega arith)
+ahead-within x (structural e y) h o m = let z = ranges x .ahead in rw e (omega (arith, z .bound))
+
+back-within : {p f b n a k : ℕ} {v s : Bool} (u g : ℕ) → Stage p f b n a k v → Kind s p → u + n ≡ g + b → u ≤ plannedBack s g
+back-within {p} u g x (updateOnly e y) o = let z = ranges x .behind .early (omega arith) in rw e (omega arith)
+back-within {p} u g x (structural e y) o =
+    byCase p 9 (λ (i : p < 9). let z = ranges x .behind .early i in rw e (omega arith)) (λ (i : 9 ≤ p). let z = ranges x .behind .late i in let j = ranges x .bound in rw e (omega arith))
+
 -- For a staged transaction with no rollback granted
 pub forward-law : (w : Watch) (r : Record) → Good w r → w .running ≡ true → w .turned ≡ false → Forward r w
 forward-law w r g i t = go (g .tied .course)
@@ -106,6 +117,7 @@ forward-law w r g i t = go (g .tied .course)
         let m = g .is-whole .size in
         record {
           order = rw l p;
+          within = rw (l, ← x) (ahead-within (g .is-whole .stage) (g .tied .kind) e (m .order) (m .inside));
           exact = rw (l, ← x) (commit-is (g .is-whole) (sym (g .tied .running) ∙ i) ∙ commit-row (g .is-whole .stage) (g .tied .kind) e (m .order) (m .inside));
         }
     go (behind e u x y) = let j : r .restoring ≡ false = sym (g .tied .turning) ∙ t in absurd (omega tests)
@@ -119,6 +131,7 @@ backward-law w r g i t = go (g .tied .course)
         let l : length (w .undone) ≡ u = ap length y ∙ length-firsts _ _ in
         record {
           order = rw l y;
+          within = rw l (back-within u (w .started) (g .is-whole .stage) (g .tied .kind) x);
           exact = rw l (recover-is (g .is-whole) (sym (g .tied .running) ∙ i) ∙ recover-row u (w .started) (g .is-whole .stage) (g .tied .kind) e x);
         }
     go (ahead e x y p q) = let j : r .restoring ≡ true = sym (g .tied .turning) ∙ t in absurd (omega tests)

@@ -14,8 +14,12 @@ use Rattle.wholeness.specs.Whole.{lengthsFit, countsFit, stagedFits, forwardFit
 use Rattle.staging.specs.Opening.{opening}
 
 -- a staged record at serial 1: phase, forward, back; entries, applied, attempted, restoring; the live ticket
-staged : ℕ → ℕ → ℕ → ℕ → ℕ → ℕ → Bool → Live → Record
+unfoldable pub staged : ℕ → ℕ → ℕ → ℕ → ℕ → ℕ → Bool → Live → Record
 staged p f b n a k v l = withTicket 1 l (withPlace p f b (withBatch n a k v (withSettings 7 true (opening 7 0 3))))
+
+-- one in phase 5
+unfoldable pub updating : Record
+updating = staged 5 4 0 3 1 2 false (Update 1)
 
 abbrev allWhole : List Record → Bool
 allWhole [] = true
@@ -29,7 +33,7 @@ phases =
     ∷ staged 2 1 0 3 0 0 false (Structure 1)
     ∷ staged 3 2 0 3 0 0 false (Structure 1)
     ∷ staged 4 3 0 3 0 0 false (Structure 1)
-    ∷ staged 5 4 0 3 1 2 false (Update 1)
+    ∷ updating
     ∷ staged 6 4 0 3 3 3 false (Structure 1)
     ∷ staged 7 5 0 3 3 3 false None
     ∷ staged 8 4 0 2 1 2 true (Rollback 1)
@@ -45,11 +49,11 @@ pub kinds : List Record
 kinds = opening 7 1 3 ∷ staged 1 0 0 3 0 0 false (Structure 1) ∷ staged 5 4 0 3 0 1 false (Update 1) ∷ staged 0 0 0 2 1 2 true (Rollback 1) ∷ []
 
 pub phases-whole : allWhole phases ≡ true
-unfolding phases staged opening whole lengthsFit countsFit stagedFits forwardFits backFits restoringFits liveFits hasSuccessor pick _and_ _or_ _implies_
+unfolding phases updating staged opening whole lengthsFit countsFit stagedFits forwardFits backFits restoringFits liveFits hasSuccessor pick _and_ _or_ _implies_
 phases-whole = refl
 
 pub phases-all : map (λ (r : Record). r .phase .number) phases ≡ 0 ∷ 1 ∷ 2 ∷ 3 ∷ 4 ∷ 5 ∷ 6 ∷ 7 ∷ 8 ∷ 9 ∷ 10 ∷ 11 ∷ 12 ∷ 13 ∷ []
-unfolding phases staged opening
+unfolding phases updating staged opening
 phases-all = refl
 
 pub kinds-whole : allWhole kinds ≡ true

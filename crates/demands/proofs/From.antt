@@ -1,5 +1,5 @@
 -- Demand 3 from any whole record, of which an opening is one case: what the watcher is told of it ties to it. Assumes nothing.
-use Prim.Native.Nat.{ℕ, _+_, _≤_}
+use Prim.Native.Nat.{ℕ, _≤_}
 use mathlib.Core.Path.{_≡_, refl}
 use mathlib.Core.Bool.{Bool, true, false}
 use mathlib.Core.List.{List}
@@ -13,11 +13,10 @@ use Rattle.record.specs.declared.Record.{Record}
 use Rattle.record.specs.declared.Live.{Live}
 use Rattle.record.specs.declared.Live.the-variants.{None, Structure, Update, Rollback}
 use Rattle.wholeness.specs.Whole.{whole}
-use Rattle.demands.specs.Calls.{Call}
-use Rattle.demands.specs.Chains.{after, heard}
+use Rattle.demands.specs.Sending.{Sent, afterSent, heardSent}
 use Rattle.demands.specs.Watching.{Watch, watch}
 use Rattle.demands.specs.Plans.{planned, plannedBack}
-use Rattle.demands.specs.Starting.{itemOf, doneOf, undoneOf, startedOf, watchOf}
+use Rattle.demands.specs.Starting.{liveItem, doneOf, undoneOf, startedOf, watchOf}
 use Rattle.demands.specs.Promises.{revisionAfter, Forward, Backward, Asking}
 use Rattle.demands.proofs.Facts.{Whole, Tick}
 use Rattle.demands.proofs.Reading.{whole-facts}
@@ -35,7 +34,7 @@ kind-of p true e = structural refl (leb-true 1 p e)
 kind-of p false e = let h = leb-false 1 p e in updateOnly refl (omega arith)
 
 last-of : (r : Record) (l : Live) → Tick l (r .serial) (r .phase .number) (r .entries) (r .applied) (r .attempted) (r .restoring) →
-    Last l (r .serial) (itemOf l r) (r .phase .number) (r .applied) (r .entries)
+    Last l (r .serial) (liveItem l r) (r .phase .number) (r .applied) (r .entries)
 last-of r None x = tt
 last-of r (Structure t) x = (omega (arith, x .number), refl)
 last-of r (Update t) x = (omega (arith, x .number), refl)
@@ -50,26 +49,30 @@ tied-of : (r : Record) → Whole r → Tied (watchOf r) r
 unfolding watchOf
 tied-of r w = record { running = refl; turning = refl; kind = kind-of (r .phase .number) _ refl; last = last-of r (r .live) (w .ticket); course = course-of r (r .restoring) }
 
-module _ (r : Record) (m : r .revision ≤ top) (h : whole r ≡ true) (cs : List Call) where
+module _ (r : Record) (m : r .revision ≤ top) (h : whole r ≡ true) (ss : List Sent) where
   abbrev now : Record
-  now = after r cs
+  now = afterSent r ss
 
   abbrev seen : Watch
-  seen = watch (watchOf r) (heard r cs)
+  seen = watch (watchOf r) (heardSent r ss)
 
   good : Good seen now
-  good = let w = whole-facts r m h in good-chain (watchOf r) r cs (record { is-whole = w; tied = tied-of r w })
+  good = let w = whole-facts r m h in good-chain (watchOf r) r ss (record { is-whole = w; tied = tied-of r w })
 
+  -- the revision is the first one plus the successful commits
   pub revision-from : now .revision ≡ revisionAfter (r .revision) (seen .commits)
   unfolding watchOf
-  revision-from = let g = chain-gains (watchOf r) r cs in omega arith
+  revision-from = let g = chain-gains (watchOf r) r ss in omega arith
 
+  -- with no rollback granted, commit succeeds exactly when all of the plan was reported done
   pub commit-from : seen .running ≡ true → seen .turned ≡ false → Forward now seen
   commit-from = forward-law seen now good
 
+  -- after a granted rollback, recovery succeeds exactly when all that is left to undo was reported done
   pub recovery-from : seen .running ≡ true → seen .turned ≡ true → Backward now seen
   recovery-from = backward-law seen now good
 
+  -- until then the due asking is granted, unless the serial is at its maximum
   pub never-locked-from : seen .running ≡ true →
       (seen .turned ≡ false → length (seen .done) ≢ planned (seen .structural) (seen .size)) →
       (seen .turned ≡ true → length (seen .undone) ≢ plannedBack (seen .structural) (seen .started)) → Asking now

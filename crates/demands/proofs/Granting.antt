@@ -1,5 +1,5 @@
 -- The due asking is granted, unless the serial is at its maximum. Assumes nothing.
-use Prim.Native.Nat.{ℕ}
+use Prim.Native.Nat.{ℕ, _≤_}
 use mathlib.Core.Path.{_≡_, refl, sym, _∙_}
 use mathlib.Core.Bool.{Bool, true, false}
 use mathlib.Core.Logic.{_≢_}
@@ -11,16 +11,18 @@ use Rattle.choice.proofs.Tests.{never, both, either}
 use Rattle.record.specs.Answers.{Told, said}
 use Rattle.record.specs.Fields.{top}
 use Rattle.record.specs.declared.Record.{Record}
+use Rattle.wholeness.specs.Whole.{whole}
 use Rattle.asking.specs.Asks.{askStructureOwn, askUpdateOwn, askRollbackOwn}
 use Rattle.demands.specs.Calls.{Call, step}
 use Rattle.demands.specs.Calls.Call.{begin, beginStructural, askStructure, askUpdate, askRollback, reportStructure, reportUpdate, reportRollback, edit, commit, recover, recoverRetained, refresh, stamp, check}
+use Rattle.demands.specs.Chains.{hears}
 use Rattle.demands.specs.Watching.{granted}
 use Rattle.demands.specs.Plans.{due}
 use Rattle.demands.proofs.Own.{own}
 use Rattle.demands.proofs.Leaf.{Apart, Updates}
 use Rattle.demands.proofs.Facts.{Whole, tests}
 use Rattle.demands.proofs.Facts.Stage.{flat}
-use Rattle.demands.proofs.Reading.{apart-of}
+use Rattle.demands.proofs.Reading.{apart-of, whole-facts}
 use Rattle.demands.proofs.Testing.{ranges}
 use Rattle.demands.proofs.Wholeness.{updates-test}
 use Rattle.demands.proofs.Chain.{undamaged}
@@ -43,6 +45,12 @@ finished r = record { sure = refl }
 ticket : (t i : ℕ) (r : Record) → Grants (record { number = 20; values = t ∷ i ∷ []; state = r })
 unfolding _or_
 ticket t i r = record { sure = refl }
+
+pub due-update : {r : Record} → Whole r → due r askUpdate ≡ true → Updates (r .phase .number) × (r .restoring ≡ false)
+unfolding due
+due-update w d =
+    either d (λ e. (Updates.batch (eqb-true _ _ e), ranges (w .stage) .turned .ahead (omega tests) (omega tests)))
+    (λ e. let x = both (both e .0) in (Updates.flat (eqb-true _ _ (x .0)), not-true _ (x .1)))
 
 module _ {r : Record} (w : Whole r) (s : r .serial ≢ top) where
   -- a ticket unless the serial is at its maximum
@@ -67,16 +75,10 @@ module _ {r : Record} (w : Whole r) (s : r .serial ≢ top) where
       grants _ (λ e. finished _) (λ e.
       grants _ (λ i. absurd (s (eqb-true _ _ (both i .1)))) (λ i. grants _ (λ j. finished _) (λ j. ticket _ _ _)))
 
-  due-update : due r askUpdate ≡ true → Updates (r .phase .number) × (r .restoring ≡ false)
-  unfolding due
-  due-update d =
-      either d (λ e. (Updates.batch (eqb-true _ _ e), ranges (w .stage) .turned .ahead (omega tests) (omega tests)))
-      (λ e. let x = both (both e .0) in (Updates.flat (eqb-true _ _ (x .0)), not-true _ (x .1)))
-
   grants-due : (c : Call) → due r c ≡ true → Grants (own r c)
   unfolding own due
   grants-due askStructure d = grants-structure (apart-of _ d)
-  grants-due askUpdate d = let x = due-update d in grants-update (x .0) (x .1)
+  grants-due askUpdate d = let x = due-update w d in grants-update (x .0) (x .1)
   grants-due askRollback d = grants-rollback
   grants-due (begin c o n) d = never (sym d)
   grants-due (beginStructural c o n) d = never (sym d)
@@ -91,5 +93,9 @@ module _ {r : Record} (w : Whole r) (s : r .serial ≢ top) where
   grants-due (stamp domain) d = never (sym d)
   grants-due (check domain e v) d = never (sym d)
 
-pub due-granted : {r : Record} (c : Call) → Whole r → due r c ≡ true → r .serial ≢ top → granted (said (step r c .number) (step r c .values)) ≡ true
-due-granted c w d s = rw (undamaged c w) (grants-due w s c d .sure)
+pub granted-whole : {r : Record} (c : Call) → Whole r → due r c ≡ true → r .serial ≢ top → granted (said (step r c .number) (step r c .values)) ≡ true
+granted-whole c w d s = rw (undamaged c w) (grants-due w s c d .sure)
+
+-- "the due asking of document 01 is granted, unless the serial is at its maximum"
+pub due-granted : (r : Record) (c : Call) → r .revision ≤ top → whole r ≡ true → due r c ≡ true → r .serial ≢ top → granted (hears c (step r c) .answer) ≡ true
+due-granted r c m h d s = granted-whole c (whole-facts r m h) d s

@@ -6,6 +6,7 @@ pub mod Own
 pub mod Unseen
 pub mod Leaf
 pub mod Classify
+pub mod Sending
 pub mod Facts
 pub mod Reading
 pub mod Testing
@@ -21,8 +22,11 @@ pub mod Tying
 pub mod Chain
 pub mod Exactly
 pub mod Granting
+pub mod OneDue
 pub mod Asking
+pub mod Keeping
 pub mod Revision
+pub mod Running
 pub mod Stamps
 pub mod Theorems
 pub mod From

@@ -15,32 +15,30 @@ use Rattle.record.specs.Fields.{top}
 use Rattle.record.specs.declared.Record.{Record}
 use Rattle.wholeness.specs.Whole.{whole}
 use Rattle.stamping.specs.Stamping.{passes}
-use Rattle.demands.specs.Calls.{Call, step}
+use Rattle.demands.specs.Calls.{step}
 use Rattle.demands.specs.Calls.Call.{stamp, check}
-use Rattle.demands.specs.Chains.{hears, after, heard}
-use Rattle.demands.specs.Watching.{watch, unwatched}
+use Rattle.demands.specs.Chains.{hears}
+use Rattle.demands.specs.Sending.{Sent, afterSent, heardSent}
+use Rattle.demands.specs.Watching.{Watch, watch, unwatched}
 use Rattle.demands.specs.Promises.{stampPasses}
 use Rattle.demands.proofs.Own.{own, whole-step, damaged-step}
-use Rattle.demands.proofs.Chain.{whole-kept}
+use Rattle.demands.proofs.Chain.{whole-chain}
 use Rattle.demands.proofs.Revision.{chain-gains}
-
--- demand 2: wholeness is kept in every chain
-pub whole-chain : (r : Record) (cs : List Call) → r .revision ≤ top → whole r ≡ true → whole (after r cs) ≡ true
-unfolding after
-whole-chain r [] m h = h
-whole-chain r (c ∷ cs) m h = let x = whole-kept r c m h in whole-chain (step r c .state) cs (x .1) (x .0)
+use Rattle.demands.proofs.Running.{chain-runs}
 
 -- a stamp that was taken is of a whole record, and carries its revision
 record Stamped (r : Record) (d a v : ℕ) : Type 0 where
   is-whole : whole r ≡ true
+  idle : r .staged ≡ false
   domain : a ≡ d
   revision : v ≡ r .revision
 
-taken : (staged : Bool) (r : Record) (d a v : ℕ) → whole r ≡ true → pick staged (said 1 []) (said 0 (d ∷ r .revision ∷ [])) ≡ said 0 (a ∷ v ∷ []) → Stamped r d a v
+taken : (staged : Bool) (r : Record) (d a v : ℕ) → r .staged ≡ staged → whole r ≡ true → pick staged (said 1 []) (said 0 (d ∷ r .revision ∷ [])) ≡ said 0 (a ∷ v ∷ []) → Stamped r d a v
 unfolding pick
-taken true r d a v w h = let z : _≡_ {A = ℕ} 1 0 = ap (λ (s : Said). s .number) h in absurd (omega tests)
-taken false r d a v w h = record {
+taken true r d a v i w h = let z : _≡_ {A = ℕ} 1 0 = ap (λ (s : Said). s .number) h in absurd (omega tests)
+taken false r d a v i w h = record {
   is-whole = w;
+  idle = i;
   domain = sym (ap (λ (s : Said). getD (s .values) 0 0) h);
   revision = sym (ap (λ (s : Said). getD (s .values) 1 0) h);
 }
@@ -57,7 +55,7 @@ heardAs t = said (t .number) (t .values)
 stamped : (r : Record) (d a v : ℕ) → hears (stamp d) (step r (stamp d)) .answer ≡ said 0 (a ∷ v ∷ []) → Stamped r d a v
 unfolding own
 stamped r d a v h =
-    test (whole r) (λ w. taken (r .staged) r d a v w (sym (ap heardAs (whole-step r (stamp d) w) ∙ answer-pick (r .staged) _ _) ∙ h))
+    test (whole r) (λ w. taken (r .staged) r d a v refl w (sym (ap heardAs (whole-step r (stamp d) w) ∙ answer-pick (r .staged) _ _) ∙ h))
     (λ w. let z : _≡_ {A = ℕ} 7 0 = ap (λ (s : Said). s .number) (sym (ap heardAs (damaged-step r (stamp d) w)) ∙ h) in absurd (omega tests))
 
 inside : (b : Bool) → pick b (said 0 (1 ∷ [])) (said 0 (0 ∷ [])) ≡ said 0 (pick b 1 0 ∷ [])
@@ -73,12 +71,15 @@ checked r e a v w = ap heardAs (whole-step r (check e a v) w) ∙ answer-pick (p
 same-by : (x y n : ℕ) → x ≡ y + n → eqb x y ≡ eqb n 0
 same-by x y n h = test (eqb n 0) (λ (e : eqb n 0 ≡ true). eq-eqb x y (omega tests) ∙ sym e) (λ (e : eqb n 0 ≡ false). ne-eqb x y (λ (i : x ≡ y). eqb-ne n 0 e (omega tests)) ∙ sym e)
 
-pub stamp-law : (r : Record) (d a v : ℕ) (cs : List Call) (e : ℕ) → r .revision ≤ top → hears (stamp d) (step r (stamp d)) .answer ≡ said 0 (a ∷ v ∷ []) →
-    hears (check e a v) (step (after r cs) (check e a v)) .answer
-    ≡ said 0 (pick (stampPasses (after r cs .staged) e a (watch unwatched (heard r cs) .commits)) 1 0 ∷ [])
+pub stamp-law : (r : Record) (d a v : ℕ) (ss : List Sent) (e : ℕ) → r .revision ≤ top → hears (stamp d) (step r (stamp d)) .answer ≡ said 0 (a ∷ v ∷ []) →
+    let w = watch unwatched (heardSent r ss) in
+    hears (check e a v) (step (afterSent r ss) (check e a v)) .answer ≡ said 0 (pick (stampPasses (w .running) e d (w .commits)) 1 0 ∷ [])
 unfolding passes unwatched stampPasses
-stamp-law r d a v cs e m h =
+stamp-law r d a v ss e m h =
     let s = stamped r d a v h in
-    let g = chain-gains unwatched r cs in
-    checked (after r cs) e a v (whole-chain r cs m (s .is-whole))
-    ∙ ap (λ (b : Bool). said 0 (pick (not (after r cs .staged) and eqb e a and b) 1 0 ∷ [])) (same-by (after r cs .revision) v (watch unwatched (heard r cs) .commits) (omega (arith, s .revision)))
+    let g = chain-gains unwatched r ss in
+    let w : Watch = watch unwatched (heardSent r ss) in
+    checked (afterSent r ss) e a v (whole-chain r ss m (s .is-whole))
+    ∙ ap (λ (b : Bool). said 0 (pick (not b and eqb e a and eqb (afterSent r ss .revision) v) 1 0 ∷ [])) (sym (chain-runs unwatched r ss (sym (s .idle))))
+    ∙ ap (λ (n : ℕ). said 0 (pick (not (w .running) and eqb e n and eqb (afterSent r ss .revision) v) 1 0 ∷ [])) (s .domain)
+    ∙ ap (λ (b : Bool). said 0 (pick (not (w .running) and eqb e d and b) 1 0 ∷ [])) (same-by (afterSent r ss .revision) v (w .commits) (omega (arith, s .revision)))

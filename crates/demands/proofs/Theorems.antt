@@ -1,5 +1,5 @@
 -- Demand 3: what holds of every chain of calls, from an opening that is not refused. Assumes nothing.
-use Prim.Native.Nat.{ℕ, _+_, _≤_}
+use Prim.Native.Nat.{ℕ, _≤_}
 use mathlib.Core.Path.{_≡_, refl, ap}
 use mathlib.Core.Bool.{Bool, true, false, not}
 use mathlib.Core.List.{List}
@@ -15,8 +15,7 @@ use Rattle.record.specs.Fields.{top}
 use Rattle.record.specs.declared.Record.{Record}
 use Rattle.wholeness.specs.Whole.{whole}
 use Rattle.staging.specs.Opening.{opening, openStep}
-use Rattle.demands.specs.Calls.{Call}
-use Rattle.demands.specs.Chains.{after, heard}
+use Rattle.demands.specs.Sending.{Sent, afterSent, heardSent}
 use Rattle.demands.specs.Watching.{Watch, watch, unwatched}
 use Rattle.demands.specs.Plans.{planned, plannedBack}
 use Rattle.demands.specs.Promises.{revisionAfter, Forward, Backward, Asking}
@@ -30,13 +29,14 @@ use Rattle.demands.proofs.Revision.{chain-gains}
 use Rattle.demands.proofs.Exactly.{forward-law, backward-law}
 use Rattle.demands.proofs.Asking.{asking-law}
 
--- an opening that is not refused gives the record of that opening
+-- of three picks, the last
 third : (b c : Bool) (x y z : Told) → x .number ≢ 0 → y .number ≢ 0 → (pick b x (pick c y z)) .number ≡ 0 → (pick b x (pick c y z) ≡ z) × (c ≡ false)
 unfolding pick
 third true c x y z p q h = absurd (p h)
 third false true x y z p q h = absurd (q h)
 third false false x y z p q h = (refl, refl)
 
+-- an opening that is not refused gives the record of that opening
 opened : (sized : Bool) (v s l : ℕ) → openStep sized v s l .number ≡ 0 → (openStep sized v s l .state ≡ opening v s l) × (l ≤ areaSize)
 unfolding openStep long
 opened sized v s l h =
@@ -57,20 +57,20 @@ good-opening v s l m h = record {
 }
 
 -- "In such a chain from an opening that is not refused, the log aside and every area of the right size"; the revision is a u64
-module _ (sized : Bool) (v s l : ℕ) (m : v ≤ top) (o : openStep sized v s l .number ≡ 0) (cs : List Call) where
+module _ (sized : Bool) (v s l : ℕ) (m : v ≤ top) (o : openStep sized v s l .number ≡ 0) (ss : List Sent) where
   abbrev now : Record
-  now = after (openStep sized v s l .state) cs
+  now = afterSent (openStep sized v s l .state) ss
 
   abbrev seen : Watch
-  seen = watch unwatched (heard (openStep sized v s l .state) cs)
+  seen = watch unwatched (heardSent (openStep sized v s l .state) ss)
 
   pub good : Good seen now
-  good = let x = opened sized v s l o in rw (x .0) (good-chain unwatched (opening v s l) cs (good-opening v s l m (x .1)))
+  good = let x = opened sized v s l o in rw (x .0) (good-chain unwatched (opening v s l) ss (good-opening v s l m (x .1)))
 
   -- "the revision is the opening one plus the successful commits"
   pub revision-law : now .revision ≡ revisionAfter v (seen .commits)
   unfolding opening unwatched
-  revision-law = let x = opened sized v s l o in rw (x .0) (let g = chain-gains unwatched (opening v s l) cs in omega arith)
+  revision-law = let x = opened sized v s l o in rw (x .0) (let g = chain-gains unwatched (opening v s l) ss in omega arith)
 
   -- "For a staged transaction of n updates with no rollback granted, commit succeeds exactly after 5 + n Done reports .."
   pub commit-exactly : seen .running ≡ true → seen .turned ≡ false → Forward now seen

@@ -24,7 +24,8 @@ pub data Call : Type 0 where
   stamp : (domain : ℕ) → Call
   check : (domain stampDomain stampRevision : ℕ) → Call
 
--- what a call answers and leaves where all that it is lent is of the right size or not, and where a log's head is sound or not
+-- what a call answers and leaves; the first test says whether all that it is lent has the right size, the second whether the head of
+-- the log that it goes through is sound
 unfoldable pub stepWith : Bool → Bool → Record → Call → Told
 stepWith sized sound r (begin c o n) = beginStep sized sound false r c o n
 stepWith sized sound r (beginStructural c o n) = beginStep sized sound true r c o n

@@ -20,7 +20,7 @@ use Rattle.demands.specs.Calls.Call.{begin, beginStructural, askStructur
 infixr 25 _⇒_
 pub data Line : Type 0 where
   _⇒_ : Call → Said → Line
-  sees : (Record → Bool) → Line
+  looks : (Record → Bool) → Line
 
 pub record Case : Type 0 where
   pub start : Record
@@ -39,7 +39,7 @@ answers t s = eqb (t .number) (s .number) && sameValues (t .values) (s .values)
 abbrev pub plays : Record → List Line → Bool
 plays r [] = true
 plays r ((c ⇒ s) ∷ ls) = answers (step r c) s && plays (step r c .state) ls
-plays r (sees look ∷ ls) = look r && plays r ls
+plays r (looks look ∷ ls) = look r && plays r ls
 
 abbrev pub done : Said
 done = says (Done Nothing)
@@ -64,21 +64,21 @@ cases =
     -- P3 staged at that revision: 7
     ∷ case (begun none 0 0 0 (opening top 0 0)) ((commit ⇒ says (Refused Damaged)) ∷ [])
     -- P4 update-only, 0 actions: commit at once
-    ∷ case (opening 0 0 3) ((begin 2 2 0 ⇒ done) ∷ (commit ⇒ says (Done (Three 3 2 0))) ∷ sees (λ r. eqb (r .revision) 1) ∷ [])
+    ∷ case (opening 0 0 3) ((begin 2 2 0 ⇒ done) ∷ (commit ⇒ says (Done (Three 3 2 0))) ∷ looks (λ r. eqb (r .revision) 1) ∷ [])
     -- P5 the same: recover at once, revision kept
-    ∷ case (opening 0 0 3) ((begin 2 2 0 ⇒ done) ∷ (recover 4 ⇒ says (Done (Three 3 2 2))) ∷ sees (λ r. eqb (r .revision) 0) ∷ [])
+    ∷ case (opening 0 0 3) ((begin 2 2 0 ⇒ done) ∷ (recover 4 ⇒ says (Done (Three 3 2 2))) ∷ looks (λ r. eqb (r .revision) 0) ∷ [])
     -- P6 structural, 0 actions: More thrice, Finished, ask update Finished, Adopt Finished, commit
     ∷ case (opening 0 0 3)
     ((beginStructural 2 2 0 ⇒ done) ∷ mounted ++ (askUpdate ⇒ says Finished) ∷ phase 5 6 (says Finished) ++ (commit ⇒ says (Done (Three 3 2 0))) ∷ [])
     -- P7 structural, 2 actions, rollback at Mount: Finished, phase 9, then More thrice, Finished
     ∷ case (opening 0 0 0)
     ((beginStructural 2 2 2 ⇒ done) ∷ phase 1 1 (says More) ++ phase 2 2 (says More) ++ (askRollback ⇒ says Finished)
-    ∷ sees (λ r. eqb (r .phase .number) recoverRemove)
+    ∷ looks (λ r. eqb (r .phase .number) recoverRemove)
     ∷ phase 3 9 (says More) ++ phase 4 10 (says More) ++ phase 5 11 (says More) ++ phase 6 12 (says Finished))
     -- P8 update-only, 3 actions, Done, Waiting, ask rollback: entries 2, ticket for number 1; Done More, Done Finished
     ∷ case (opening 0 0 0)
     ((begin 2 2 3 ⇒ done) ∷ (askUpdate ⇒ says (Ticket 1 0)) ∷ (reportUpdate 1 O.Done ⇒ says More) ∷ (askUpdate ⇒ says (Ticket 2 1))
-    ∷ (reportUpdate 2 O.Waiting ⇒ says Waiting) ∷ (askRollback ⇒ says (Ticket 3 1)) ∷ sees (λ r. eqb (r .entries) 2)
+    ∷ (reportUpdate 2 O.Waiting ⇒ says Waiting) ∷ (askRollback ⇒ says (Ticket 3 1)) ∷ looks (λ r. eqb (r .entries) 2)
     ∷ (reportRollback 3 O.Done ⇒ says More) ∷ (askRollback ⇒ says (Ticket 4 0)) ∷ (reportRollback 4 O.Done ⇒ says Finished) ∷ [])
     -- P9 serial 0, asked twice: ticket 1 Stale, 2 taken
     ∷ case (opening 0 0 0)

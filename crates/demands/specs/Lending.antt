@@ -46,7 +46,8 @@ callOf (refresh a x n) = calls (Call.refresh n)
 callOf (stamp domain) = calls (Call.stamp domain)
 callOf (check domain d v) = calls (Call.check domain d v)
 
--- what is lent to be written, in the order of the contract; payloads and pairs are only read, by their types
+-- the areas and the table that are lent, in the order of the contract; payloads and pairs are only read, by their types, and so is the
+-- recovery area of a recovery from it
 unfoldable pub lent : {logged : Bool} → Lending logged → List (List ℕ)
 lent (openAt v s a p) = a ∷ []
 lent (begin structural c o t new old pairs) = c ∷ o ∷ t ∷ []

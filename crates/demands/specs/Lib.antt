@@ -11,3 +11,4 @@ pub mod Refusals
 pub mod Lending
 pub mod Contracts
 pub mod Marks
+pub mod Sending

@@ -1,5 +1,5 @@
 -- Demands 2 and 3, sentence by sentence, of a record and of what the watcher knows: w is known when r is reached. Assumes nothing.
-use Prim.Native.Nat.{ℕ, _+_}
+use Prim.Native.Nat.{ℕ, _+_, _≤_}
 use mathlib.Core.Path.{_≡_}
 use mathlib.Core.Bool.{Bool, true, not}
 use mathlib.Core.Logic.{_≢_}
@@ -25,12 +25,14 @@ revisionAfter opening commits = opening + commits
 -- "commit succeeds exactly after 5 + n Done reports that are taken (n if update-only), in the fixed order"
 pub record Forward (r : Record) (w : Watch) : Type 0 where
   pub order : w .done ≡ firsts (planAt (w .structural) (w .size)) (length (w .done))
+  pub within : length (w .done) ≤ planned (w .structural) (w .size)
   pub exact : performed (hears commit (step r commit) .answer) ≡ eqb (length (w .done)) (planned (w .structural) (w .size))
 
 -- "with k updates started, recovery from the retained payload succeeds exactly after k + 4 further Done reports that are taken (k if
 -- update-only), the k undos in reverse order"
 pub record Backward (r : Record) (w : Watch) : Type 0 where
   pub order : w .undone ≡ firsts (backAt (w .started)) (length (w .undone))
+  pub within : length (w .undone) ≤ plannedBack (w .structural) (w .started)
   pub exact : performed (hears recoverRetained (step r recoverRetained) .answer) ≡ eqb (length (w .undone)) (plannedBack (w .structural) (w .started))
 
 -- "the due asking of document 01 is granted, unless the serial is at its maximum"

@@ -10,11 +10,11 @@ use Rattle.demands.specs.Watching.{Item, Watch}
 use Rattle.demands.specs.Watching.Item.{settle, apply, undo, unknown}
 use Rattle.demands.specs.Plans.{planAt, backAt, firsts}
 
-abbrev pub itemOf : Live → Record → Item
-itemOf None r = unknown
-itemOf (Structure t) r = settle (r .phase .number)
-itemOf (Update t) r = apply (r .applied)
-itemOf (Rollback t) r = undo (r .entries - 1)
+abbrev pub liveItem : Live → Record → Item
+liveItem None r = unknown
+liveItem (Structure t) r = settle (r .phase .number)
+liveItem (Update t) r = apply (r .applied)
+liveItem (Rollback t) r = undo (r .entries - 1)
 
 abbrev pub doneOf : Bool → Record → List Item
 doneOf true r = []
@@ -38,7 +38,7 @@ watchOf r = record {
   turned = r .restoring;
   started = startedOf (r .restoring) r;
   ticket = r .serial;
-  item = itemOf (r .live) r;
+  item = liveItem (r .live) r;
   done = doneOf (r .restoring) r;
   undone = undoneOf (r .restoring) r;
 }

@@ -12,7 +12,8 @@ use Rattle.demands.specs.Calls.{Call}
 use Rattle.demands.specs.Calls.Call.{begin, beginStructural, askStructure, askUpdate, askRollback, reportStructure, reportUpdate, reportRollback, edit, commit, recover, recoverRetained, refresh, stamp, check}
 use Rattle.demands.specs.Chains.{Heard}
 
--- what a ticket is for: the structure work of a phase, an action, the undoing of an action; or no ticket that was given last
+-- what a ticket is for: the structure work of a phase, an action, the undoing of an action; unknown where it is not the ticket that
+-- was given last
 pub data Item : Type 0 where
   settle apply undo : ℕ → Item
   unknown : Item
@@ -45,7 +46,7 @@ granted a = eqb (a .number) 20 or eqb (a .number) 24
 abbrev pub taken : Said → Bool
 taken a = eqb (a .number) 23 or eqb (a .number) 24
 
--- a transaction begins, or ends: nothing is known of it yet
+-- a transaction begins, or ends: all counts start anew, and the last ticket stays the last
 abbrev pub fresh : ℕ → Bool → Bool → ℕ → Watch → Watch
 fresh commits running structural size w = record {
   commits = commits;

@@ -1,0 +1,66 @@
+-- On a whole record at most one asking is due. Assumes nothing.
+use Prim.Native.Nat.{ℕ, _≤_, _<_}
+use mathlib.Core.Path.{_≡_, refl, sym}
+use mathlib.Core.Bool.{Bool, true, false}
+use native.Mathlib.Omega.{arith}
+use borrow.Author.Tests.{ltb-true}
+use Rattle.choice.proofs.Tests.{never, both}
+use Rattle.record.specs.Fields.{top}
+use Rattle.record.specs.declared.Record.{Record}
+use Rattle.wholeness.specs.Whole.{whole}
+use Rattle.demands.specs.Calls.{Call}
+use Rattle.demands.specs.Calls.Call.{begin, beginStructural, askStructure, askUpdate, askRollback, reportStructure, reportUpdate, reportRollback, edit, commit, recover, recoverRetained, refresh, stamp, check}
+use Rattle.demands.specs.Plans.{due}
+use Rattle.demands.proofs.Leaf.{Apart, Updates}
+use Rattle.demands.proofs.Facts.{Whole, tests}
+use Rattle.demands.proofs.Reading.{apart-of, whole-facts}
+use Rattle.demands.proofs.Moves.{Undo, inUndo}
+use Rattle.demands.proofs.Granting.{due-update}
+
+-- which asking is due, with what that says of the record
+data Due (r : Record) : Call → Type 0 where
+  structure : Apart (r .phase .number) → Due r askStructure
+  update : Updates (r .phase .number) → r .restoring ≡ false → Due r askUpdate
+  rollback : r .restoring ≡ true → 0 < r .entries → Due r askRollback
+
+due-is : (r : Record) → Whole r → (c : Call) → due r c ≡ true → Due r c
+unfolding due
+due-is r w askStructure d = structure (apart-of _ d)
+due-is r w askUpdate d = let x = due-update w d in update (x .0) (x .1)
+due-is r w askRollback d = let x = both d in rollback (x .0) (ltb-true _ _ (x .1))
+due-is r w (begin c o n) d = never (sym d)
+due-is r w (beginStructural c o n) d = never (sym d)
+due-is r w (reportStructure t x c o) d = never (sym d)
+due-is r w (reportUpdate t x) d = never (sym d)
+due-is r w (reportRollback t x) d = never (sym d)
+due-is r w (edit c o) d = never (sym d)
+due-is r w commit d = never (sym d)
+due-is r w (recover n) d = never (sym d)
+due-is r w recoverRetained d = never (sym d)
+due-is r w (refresh n) d = never (sym d)
+due-is r w (stamp domain) d = never (sym d)
+due-is r w (check domain e v) d = never (sym d)
+
+-- no phase has two of them
+settling : {p : ℕ} {P : Type 0} → Apart p → Updates p → P
+settling y (Updates.flat e) = absurd (y .not0 e)
+settling y (Updates.batch e) = absurd (y .not5 e)
+
+undoing : {p f b n k : ℕ} {P : Type 0} → Apart p → Undo p f b n k → P
+undoing y (Undo.plain e x1 x2 x3) = absurd (y .not0 e)
+undoing y (Undo.inside e x1 x2 x3 x4) = absurd (y .not8 e)
+
+one : (r : Record) → Whole r → {c e : Call} → Due r c → Due r e → c ≡ e
+one r w (structure y) (structure z) = refl
+one r w (structure y) (update u e) = settling y u
+one r w (structure y) (rollback e h) = undoing y (inUndo (w .stage) e h)
+one r w (update u e) (structure y) = settling y u
+one r w (update u e) (update v d) = refl
+one r w (update u e) (rollback d h) = absurd (omega tests)
+one r w (rollback e h) (structure y) = undoing y (inUndo (w .stage) e h)
+one r w (rollback d h) (update u e) = absurd (omega tests)
+one r w (rollback e h) (rollback d g) = refl
+
+-- "the due asking": two that are due are the same
+pub one-due : (r : Record) (c e : Call) → r .revision ≤ top → whole r ≡ true → due r c ≡ true → due r e ≡ true → c ≡ e
+one-due r c e m h p q = let w = whole-facts r m h in one r w (due-is r w c p) (due-is r w e q)

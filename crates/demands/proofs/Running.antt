@@ -1,0 +1,53 @@
+-- A watcher who knows whether something is staged goes on knowing it, whatever else was not told. Assumes nothing.
+use Prim.Native.Nat.{ℕ}
+use mathlib.Core.Path.{_≡_, refl}
+use mathlib.Core.List.{List, [], _∷_}
+use Rattle.choice.specs.Pick.{pick, _or_}
+use Rattle.phases.specs.Phases.{successor}
+use Rattle.record.specs.Answers.{Told, said}
+use Rattle.record.specs.Fields.{adopting}
+use Rattle.record.specs.declared.Record.{Record}
+use Rattle.record.specs.declared.Outcome.the-variants as O
+use Rattle.staging.specs.Beginning.{begun}
+use Rattle.asking.specs.Asks.{turned}
+use Rattle.reporting.specs.Done.{advanced, leaving}
+use Rattle.settling.specs.Ending.{settled}
+use Rattle.demands.specs.Calls.{Call}
+use Rattle.demands.specs.Sending.{Sent, answered, afterSent, heardSent}
+use Rattle.demands.specs.Watching.{Watch, reported, sees, watch}
+use Rattle.demands.proofs.Keeping.{report-keeps, onward-keeps}
+use Rattle.demands.proofs.Leaf.{Leaf}
+use Rattle.demands.proofs.Leaf.Leaf.{kept, began, beganStructural, structureAsked, updateEnded, updateAsked, rollbackEnded, turnedEmpty, turnedAsked, waited, waitedStoring, went, updateLast, updateMore, undoLast, undoMore, edited, committed, recovered, restored, refreshed}
+use Rattle.demands.proofs.Sending.{sent-leaf}
+
+report-runs : (t n : ℕ) (w : Watch) → reported t O.Done (said n []) w .running ≡ w .running
+report-runs t n w = report-keeps (λ (x : Watch). x .running) (λ d u x. refl) t O.Done (said n []) w
+
+runs : {r : Record} {c : Call} {x : Told} (w : Watch) → Leaf r c x → w .running ≡ r .staged → sees w c (said (x .number) (x .values)) .running ≡ x .state .staged
+unfolding sees begun turned adopting leaving settled advanced pick _or_
+runs w (kept u) h = rw (u w) h
+runs w (began z i l c o m) h = refl
+runs w (beganStructural z i l c o m) h = refl
+runs w (structureAsked y) h = h
+runs w (updateEnded u e s) h = h
+runs w (updateAsked u e n) h = h
+runs w (rollbackEnded p) h = h
+runs w (turnedEmpty p n) h = h
+runs w (turnedAsked p n) h = h
+runs w (waited u) h = rw (u w) h
+runs w (waitedStoring u i j) h = rw (u w) h
+runs {r} w (went {t = t} {n = n} o l i j) h = rw (onward-keeps (λ (x : Record). x .staged) (λ p a b x. refl) (successor (r .phase .number)) _, report-runs t n w) h
+runs w (updateLast {t = t} l n) h = rw (report-runs t 24 w) h
+runs w (updateMore {t = t} l n) h = rw (report-runs t 23 w) h
+runs w (undoLast {t = t} l n) h = rw (report-runs t 24 w) h
+runs w (undoMore {t = t} l n) h = rw (report-runs t 23 w) h
+runs w (edited i j) h = h
+runs w (committed i) h = refl
+runs w (recovered i) h = refl
+runs w restored h = refl
+runs w (refreshed i) h = h
+
+pub chain-runs : (w : Watch) (r : Record) (ss : List Sent) → w .running ≡ r .staged → watch w (heardSent r ss) .running ≡ afterSent r ss .staged
+unfolding afterSent heardSent watch
+chain-runs w r [] h = h
+chain-runs w r (s ∷ ss) h = chain-runs _ (answered r s .state) ss (runs w (sent-leaf r s) h)
