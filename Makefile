@@ -1,6 +1,6 @@
 # make run       proves, builds and runs the driver on examples/reload.script, and shows each line with its answer
 # make test      the gate: the kit's identity, the layout of every file, the oracle's tests, `rt ci` over every crate, and a short comparison
-# make compare   plays the fixed scripts and 200 random ones, 1,000,000 calls, by the driver and by the oracle, and compares them line by line
+# make compare   plays the fixed scripts and 200 random ones, 1,000,000 calls, by the driver and by the oracle, and compares them byte for byte
 # make bench     times copying, exchanging and the driver beside Rust's, all for x86-64 (on Arm tools/cross installs what it needs)
 .PHONY: help run test compare bench
 
