@@ -22,11 +22,11 @@ module _ {A : Type 0} (f : Watch → A) (same : (d u : List Item) (w : Watch) �
   picked true false d u d' u' w = same d' u' w
   picked false v d u d' u' w = refl
 
-  pub report-keeps : (t : ℕ) (x : Outcome) (a : Said) (w : Watch) → f (reported t x a w) ≡ f w
+  pub report-keeps : (k : Item → Bool) (t : ℕ) (x : Outcome) (a : Said) (w : Watch) → f (reported k t x a w) ≡ f w
   unfolding reported
-  report-keeps t O.Waiting a w = refl
-  report-keeps t (O.Failed code) a w = refl
-  report-keeps t O.Done a w = picked _ (w .turned) _ _ _ _ w
+  report-keeps k t O.Waiting a w = refl
+  report-keeps k t (O.Failed code) a w = refl
+  report-keeps k t O.Done a w = picked _ (w .turned) _ _ _ _ w
 
 -- of the record, going on changes the place alone
 pub onward-keeps : {A : Type 0} (f : Record → A) → ((p a b : ℕ) (r : Record) → f (withPlace p a b r) ≡ f r) → (next : Next) (r : Record) → f (onward next r) ≡ f r

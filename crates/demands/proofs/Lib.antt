@@ -44,6 +44,7 @@ pub mod OneRow
 pub mod Refusals
 pub mod ExactRefusals
 pub mod Transaction
+pub mod SentCalls
 pub mod Written
 pub mod Logged
 pub mod Recorder

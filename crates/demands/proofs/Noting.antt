@@ -1,12 +1,12 @@
 -- What the watcher knows, tied to the record; and how it notes a Done report that is taken. Assumes nothing.
 use Prim.Native.Nat.{ℕ, _≤_, _<_}
-use mathlib.Core.Path.{_≡_, sym, _∙_}
+use mathlib.Core.Path.{_≡_, sym, _∙_, ap}
 use mathlib.Core.Bool.{Bool, true, false}
 use mathlib.Core.List.{List, [], _∷_, _++_}
 use native.Mathlib.Omega.{arith}
 use lib.Dec.{eqb}
 use borrow.Author.Tests.{eq-eqb}
-use Rattle.choice.specs.Pick.{pick, _or_}
+use Rattle.choice.specs.Pick.{pick, _and_, _or_}
 use Rattle.record.specs.Answers.{said}
 use Rattle.record.specs.Fields.{spent}
 use Rattle.record.specs.declared.Record.{Record}
@@ -14,7 +14,7 @@ use Rattle.record.specs.declared.Outcome.the-variants as O
 use Rattle.asking.specs.Asks.{turned}
 use Rattle.reporting.specs.Done.{advanced}
 use Rattle.reporting.specs.Reports.{storing}
-use Rattle.demands.specs.Watching.{Watch, lists, reported}
+use Rattle.demands.specs.Watching.{Item, Watch, settles, lists, reported}
 use Rattle.demands.specs.Watching.Item.{settle}
 use Rattle.demands.proofs.Leaf.{Apart}
 use Rattle.demands.proofs.Facts.{Whole, byCase}
@@ -34,14 +34,14 @@ pub record Tied (w : Watch) (r : Record) : Type 0 where
   pub course : Course (w .structural) (w .size) (w .started) (w .done) (w .undone) (r .forward) (r .back) (r .entries) (r .applied) (r .attempted) (r .restoring)
 
 -- a Done report that is taken, of the last ticket: before and after a rollback was granted
-module _ (n t : ℕ) (vs : List ℕ) (w : Watch) (h : eqb n 23 or eqb n 24 ≡ true) (e : w .ticket ≡ t) where
-  pub note-ahead : w .turned ≡ false → reported t O.Done (said n vs) w ≡ lists (w .done ++ (w .item ∷ [])) (w .undone) w
-  unfolding reported pick
-  note-ahead i = rw (h, eq-eqb t (w .ticket) (sym e), i)
+module _ (k : Item → Bool) (n t : ℕ) (vs : List ℕ) (w : Watch) (h : eqb n 23 or eqb n 24 ≡ true) (e : w .ticket ≡ t) (j : k (w .item) ≡ true) where
+  pub note-ahead : w .turned ≡ false → reported k t O.Done (said n vs) w ≡ lists (w .done ++ (w .item ∷ [])) (w .undone) w
+  unfolding reported pick _and_
+  note-ahead i = rw (h, eq-eqb t (w .ticket) (sym e), j, i)
 
-  pub note-behind : w .turned ≡ true → reported t O.Done (said n vs) w ≡ lists (w .done) (w .undone ++ (w .item ∷ [])) w
-  unfolding reported pick
-  note-behind i = rw (h, eq-eqb t (w .ticket) (sym e), i)
+  pub note-behind : w .turned ≡ true → reported k t O.Done (said n vs) w ≡ lists (w .done) (w .undone ++ (w .item ∷ [])) w
+  unfolding reported pick _and_
+  note-behind i = rw (h, eq-eqb t (w .ticket) (sym e), j, i)
 
 along-ahead : {p f b n a k : ℕ} {v : Bool} → Along p f b n a k v → p ≤ 6 → v ≡ false
 along-ahead (Along.start x1 x2 x3 x4 x5 x6) h = x1
@@ -54,20 +54,20 @@ undo-back (Undo.inside x1 x2 x3 x4 x5) = x4
 
 -- a structure report that is taken
 pub advances : {r : Record} (w : Watch) (n t new old : ℕ) → Whole r → Tied w r → eqb n 23 or eqb n 24 ≡ true → Apart (r .phase .number) → (w .ticket ≡ t) × (w .item ≡ settle (r .phase .number)) →
-    Tied (reported t O.Done (said n []) w) (advanced (spent (storing new old r)))
+    Tied (reported settles t O.Done (said n []) w) (advanced (spent (storing new old r)))
 advances {r} w n t new old h d o y q =
     let s = successor-test (r .phase .number) (ranges (h .stage) .bound) y in
     let x : Record = spent (storing new old r) in
     let m = inAlong (h .stage) y in
     byCase 6 (r .phase .number)
-    (λ (j : 6 < r .phase .number). rw (goes-down x s j, note-behind n t [] w o (q .0) (d .turning ∙ ranges (h .stage) .turned .behind (omega (arith, y .not7)))) record {
+    (λ (j : 6 < r .phase .number). rw (goes-down x s j, note-behind settles n t [] w o (q .0) (ap settles (q .1)) (d .turning ∙ ranges (h .stage) .turned .behind (omega (arith, y .not7)))) record {
       running = d .running;
       turning = d .turning;
       kind = same-kind (d .kind) (λ z. omega arith) (λ z. omega arith);
       last = tt;
       course = down m (d .course) j (q .1);
     })
-    (λ (j : r .phase .number ≤ 6). rw (goes-up x s j, note-ahead n t [] w o (q .0) (d .turning ∙ along-ahead m j)) record {
+    (λ (j : r .phase .number ≤ 6). rw (goes-up x s j, note-ahead settles n t [] w o (q .0) (ap settles (q .1)) (d .turning ∙ along-ahead m j)) record {
       running = d .running;
       turning = d .turning;
       kind = same-kind (d .kind) (λ z. omega (arith, y .not0)) (λ z. omega arith);

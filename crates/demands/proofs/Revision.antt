@@ -1,6 +1,7 @@
 -- The revision is the first one plus the successful commits, in every chain from any record. Assumes nothing.
 use Prim.Native.Nat.{ℕ, _+_}
 use mathlib.Core.Path.{_≡_, refl}
+use mathlib.Core.Bool.{Bool}
 use mathlib.Core.List.{List, [], _∷_}
 use native.Mathlib.Omega.{arith}
 use Rattle.choice.specs.Pick.{pick, _or_}
@@ -15,14 +16,14 @@ use Rattle.reporting.specs.Done.{advanced, leaving}
 use Rattle.settling.specs.Ending.{settled}
 use Rattle.demands.specs.Calls.{Call}
 use Rattle.demands.specs.Sending.{Sent, answered, afterSent, heardSent}
-use Rattle.demands.specs.Watching.{Watch, reported, sees, watch}
+use Rattle.demands.specs.Watching.{Item, Watch, reported, sees, watch}
 use Rattle.demands.proofs.Keeping.{report-keeps, onward-keeps}
 use Rattle.demands.proofs.Leaf.{Leaf}
 use Rattle.demands.proofs.Leaf.Leaf.{kept, began, beganStructural, structureAsked, updateEnded, updateAsked, rollbackEnded, turnedEmpty, turnedAsked, waited, waitedStoring, went, updateLast, updateMore, undoLast, undoMore, edited, committed, recovered, restored, refreshed}
 use Rattle.demands.proofs.Sending.{sent-leaf}
 
-report-commits : (t n : ℕ) (w : Watch) → reported t O.Done (said n []) w .commits ≡ w .commits
-report-commits t n w = report-keeps (λ (x : Watch). x .commits) (λ d u x. refl) t O.Done (said n []) w
+report-commits : (k : Item → Bool) (t n : ℕ) (w : Watch) → reported k t O.Done (said n []) w .commits ≡ w .commits
+report-commits k t n w = report-keeps (λ (x : Watch). x .commits) (λ d u x. refl) k t O.Done (said n []) w
 
 -- one call: what the revision gains is what the watcher counts
 gains : {r : Record} {c : Call} {x : Told} (w : Watch) → Leaf r c x → x .state .revision + w .commits ≡ r .revision + sees w c (said (x .number) (x .values)) .commits
@@ -38,11 +39,11 @@ gains w (turnedEmpty p n) = refl
 gains w (turnedAsked p n) = refl
 gains w (waited u) = rw (u w)
 gains w (waitedStoring u i j) = rw (u w)
-gains {r} w (went {t = t} {n = n} o l i j) = rw (onward-keeps (λ (x : Record). x .revision) (λ p a b x. refl) (successor (r .phase .number)) _, report-commits t n w)
-gains w (updateLast {t = t} l n) = rw (report-commits t 24 w)
-gains w (updateMore {t = t} l n) = rw (report-commits t 23 w)
-gains w (undoLast {t = t} l n) = rw (report-commits t 24 w)
-gains w (undoMore {t = t} l n) = rw (report-commits t 23 w)
+gains {r} w (went {t = t} {n = n} o l i j) = rw (onward-keeps (λ (x : Record). x .revision) (λ p a b x. refl) (successor (r .phase .number)) _, report-commits _ t n w)
+gains w (updateLast {t = t} l n) = rw (report-commits _ t 24 w)
+gains w (updateMore {t = t} l n) = rw (report-commits _ t 23 w)
+gains w (undoLast {t = t} l n) = rw (report-commits _ t 24 w)
+gains w (undoMore {t = t} l n) = rw (report-commits _ t 23 w)
 gains w (edited i j) = refl
 gains w (committed i) = omega arith
 gains w (recovered i) = refl

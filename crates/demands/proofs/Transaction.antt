@@ -2,7 +2,7 @@
 -- given and leaves all that was lent. Assumes nothing.
 use Prim.Native.Nat.{ℕ}
 use mathlib.Core.Path.{_≡_, refl, sym, _∙_, ap}
-use mathlib.Core.Bool.{Bool, true, false}
+use mathlib.Core.Bool.{true, false}
 use mathlib.Core.List.{List, []}
 use lib.Dec.{eqb}
 use Rattle.choice.proofs.Picks.{yes}
@@ -13,10 +13,9 @@ use Rattle.begins.specs.Opens.{openLeaves}
 use Rattle.begins.specs.Begins.{beginLeaves, editLeaves}
 use Rattle.reports.specs.Reports.{reportStructureLeaves, reportUpdateLeaves, reportRollbackLeaves}
 use Rattle.ends.specs.Ends.{commitLeaves, recoverLeaves, recoverRetainedLeaves, refreshLeaves}
-use Rattle.demands.specs.Calls.{Call, stepWith, step}
+use Rattle.demands.specs.Calls.{stepWith}
 use Rattle.demands.specs.Rows.{given, among}
-use Rattle.demands.specs.Refusals.{AnyCall, stepOf, returned, rows, numbersOf}
-use Rattle.demands.specs.Refusals.AnyCall.{calls}
+use Rattle.demands.specs.Refusals.{stepOf, returned, rows, numbersOf}
 use Rattle.demands.specs.Lending.{Lending, callOf, lent, fits}
 use Rattle.demands.specs.Lending.Lending.{openAt, begin, askStructure, askUpdate, askRollback, reportStructure, reportUpdate, reportRollback, edit, commit, recover, recoverRetained, refresh, stamp, check}
 use Rattle.demands.specs.Contracts.{leavesOf}
@@ -69,7 +68,6 @@ module _ (r : Record) where
         let g = sym (ap refused number-told) ∙ h in
         (ap (λ (t : Told). t .state) (follows c .tells) ∙ refusal-returns (fits c) true r (callOf c) g, follows c .unmoved g)
 
-    -- "the log aside and every area of the right size": what a chain's step tells is what the public function's contract says
-    pub right-size : (k : Call) → fits c ≡ true → callOf c ≡ calls k → leavesOf r c .told ≡ step r k
-    unfolding stepOf step
-    right-size k h e = follows c .tells ∙ ap (λ (b : Bool). stepOf b true r (callOf c)) h ∙ ap (λ (a : AnyCall). stepOf true true r a) e
+    -- what the contract says that the call tells is its step
+    pub tells-step : leavesOf r c .told ≡ stepOf (fits c) true r (callOf c)
+    tells-step = follows c .tells

@@ -1,6 +1,6 @@
 -- What the watcher knows ties to the record, and stays tied through every call. Assumes nothing.
 use Prim.Native.Nat.{ℕ, _-_, _≤_, _<_}
-use mathlib.Core.Path.{_≡_, refl, sym, _∙_}
+use mathlib.Core.Path.{_≡_, refl, sym, _∙_, ap}
 use mathlib.Core.Bool.{Bool}
 use mathlib.Core.List.{[]}
 use native.Mathlib.Omega.{arith}
@@ -17,7 +17,7 @@ use Rattle.asking.specs.Asks.{turned}
 use Rattle.reporting.specs.Done.{leaving}
 use Rattle.settling.specs.Ending.{settled}
 use Rattle.demands.specs.Calls.{Call}
-use Rattle.demands.specs.Watching.{Watch, sees}
+use Rattle.demands.specs.Watching.{Watch, applies, undoes, sees}
 use Rattle.demands.specs.Watching.Item.{apply, undo}
 use Rattle.demands.proofs.Leaf.{Leaf}
 use Rattle.demands.proofs.Leaf.Leaf.{kept, began, beganStructural, structureAsked, updateEnded, updateAsked, rollbackEnded, turnedEmpty, turnedAsked, waited, waitedStoring, went, updateLast, updateMore, undoLast, undoMore, edited, committed, recovered, restored, refreshed}
@@ -77,7 +77,7 @@ tie {r} w h d (went {t = t} {new = new} {old = old} {n = n} o l i j) =
 tie {r} w h d (updateLast {t = t} l n) =
     let o = onUpdate h l in
     let q : (w .ticket ≡ t) × (w .item ≡ apply (r .applied)) = rw (is-update (r .live) t l) at (d .last) in
-    rw (note-ahead 24 t [] w refl (q .0) (d .turning ∙ o .ahead)) record {
+    rw (note-ahead applies 24 t [] w refl (q .0) (ap applies (q .1)) (d .turning ∙ o .ahead)) record {
       running = d .running;
       turning = d .turning;
       kind = adopts (r .phase .number) (d .kind);
@@ -87,7 +87,7 @@ tie {r} w h d (updateLast {t = t} l n) =
 tie {r} w h d (updateMore {t = t} l n) =
     let o = onUpdate h l in
     let q : (w .ticket ≡ t) × (w .item ≡ apply (r .applied)) = rw (is-update (r .live) t l) at (d .last) in
-    rw (note-ahead 23 t [] w refl (q .0) (d .turning ∙ o .ahead)) record {
+    rw (note-ahead applies 23 t [] w refl (q .0) (ap applies (q .1)) (d .turning ∙ o .ahead)) record {
       running = d .running;
       turning = d .turning;
       kind = d .kind;
@@ -97,7 +97,7 @@ tie {r} w h d (updateMore {t = t} l n) =
 tie {r} w h d (undoLast {t = t} l n) =
     let o = onRollback h l in
     let q : (w .ticket ≡ t) × (w .item ≡ undo (r .entries - 1)) = rw (is-rollback (r .live) t l) at (d .last) in
-    rw (note-behind 24 t [] w refl (q .0) (d .turning ∙ o .behind)) record {
+    rw (note-behind undoes 24 t [] w refl (q .0) (ap undoes (q .1)) (d .turning ∙ o .behind)) record {
       running = d .running;
       turning = d .turning;
       kind = leaves (r .phase .number) (d .kind);
@@ -107,7 +107,7 @@ tie {r} w h d (undoLast {t = t} l n) =
 tie {r} w h d (undoMore {t = t} l n) =
     let o = onRollback h l in
     let q : (w .ticket ≡ t) × (w .item ≡ undo (r .entries - 1)) = rw (is-rollback (r .live) t l) at (d .last) in
-    rw (note-behind 23 t [] w refl (q .0) (d .turning ∙ o .behind)) record {
+    rw (note-behind undoes 23 t [] w refl (q .0) (ap undoes (q .1)) (d .turning ∙ o .behind)) record {
       running = d .running;
       turning = d .turning;
       kind = d .kind;

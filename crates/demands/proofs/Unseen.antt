@@ -1,7 +1,7 @@
 -- What the watcher does not see: a refused call, and an answer that moves nothing. Assumes nothing.
 use Prim.Native.Nat.{ℕ}
 use mathlib.Core.Path.{_≡_, refl}
-use mathlib.Core.Bool.{true, false}
+use mathlib.Core.Bool.{Bool, true, false}
 use mathlib.Core.List.{List}
 use lib.Dec.{eqb}
 use borrow.Author.Tests.{ne-eqb}
@@ -13,7 +13,7 @@ use Rattle.record.specs.declared.Outcome.{Outcome}
 use Rattle.record.specs.declared.Outcome.the-variants as O
 use Rattle.demands.specs.Calls.{Call}
 use Rattle.demands.specs.Calls.Call.{begin, beginStructural, askStructure, askUpdate, askRollback, reportStructure, reportUpdate, reportRollback, edit, commit, recover, recoverRetained, refresh, stamp, check}
-use Rattle.demands.specs.Watching.{Watch, reported, sees}
+use Rattle.demands.specs.Watching.{Item, Watch, reported, sees}
 
 abbrev pub tell : ℕ → List ℕ → Record → Told
 tell n vs r = record { number = n; values = vs; state = r }
@@ -40,11 +40,11 @@ quiet n h =
     }
 
 module _ (n : ℕ) (vs : List ℕ) (q : Quiet n) where
-  report-unseen : (t : ℕ) (x : Outcome) (w : Watch) → reported t x (said n vs) w ≡ w
+  report-unseen : (k : Item → Bool) (t : ℕ) (x : Outcome) (w : Watch) → reported k t x (said n vs) w ≡ w
   unfolding reported pick _or_
-  report-unseen t O.Waiting w = refl
-  report-unseen t (O.Failed code) w = refl
-  report-unseen t O.Done w = rw (q .more, q .finished)
+  report-unseen k t O.Waiting w = refl
+  report-unseen k t (O.Failed code) w = refl
+  report-unseen k t O.Done w = rw (q .more, q .finished)
 
   quiet-unseen : (c : Call) → Unseen c n vs
   unfolding sees pick _or_
@@ -53,9 +53,9 @@ module _ (n : ℕ) (vs : List ℕ) (q : Quiet n) where
   quiet-unseen askStructure w = rw (q .ticket)
   quiet-unseen askUpdate w = rw (q .ticket)
   quiet-unseen askRollback w = rw (q .ticket, q .finished)
-  quiet-unseen (reportStructure t x c o) w = report-unseen t x w
-  quiet-unseen (reportUpdate t x) w = report-unseen t x w
-  quiet-unseen (reportRollback t x) w = report-unseen t x w
+  quiet-unseen (reportStructure t x c o) w = report-unseen _ t x w
+  quiet-unseen (reportUpdate t x) w = report-unseen _ t x w
+  quiet-unseen (reportRollback t x) w = report-unseen _ t x w
   quiet-unseen (edit c o) w = refl
   quiet-unseen commit w = rw (q .done)
   quiet-unseen (recover k) w = rw (q .done)

@@ -6,9 +6,12 @@ use Rattle.choice.specs.Pick.{pick, _and_}
 use Rattle.record.specs.Answers.{Told, refuse}
 use Rattle.record.specs.declared.Record.{Record}
 use Rattle.record.specs.declared.Refusal.the-variants.{LogFull}
+use Rattle.staging.specs.Opening.{openStep}
 use Rattle.demands.specs.Calls.{Call, stepWith}
 use Rattle.demands.specs.Chains.{Heard, hears}
 use Rattle.demands.specs.Logged.{written}
+use Rattle.demands.specs.Refusals.{AnyCall}
+use Rattle.demands.specs.Refusals.AnyCall.{opens, calls}
 
 -- a call; whether all that it is lent has the right size, and, where it goes through a log, whether the log's head is sound and
 -- whether it is full
@@ -36,3 +39,8 @@ afterSent r (s ∷ ss) = afterSent (answered r s .state) ss
 unfoldable pub heardSent : Record → List Sent → List Heard
 heardSent r [] = []
 heardSent r (s ∷ ss) = hears (s .call) (answered r s) ∷ heardSent (answered r s .state) ss
+
+-- what any call answers, an opening too, by the same tests
+abbrev pub answeredAny : Bool → Bool → Bool → Record → AnyCall → Told
+answeredAny sized sound full r (opens revision serial accepted) = openStep sized revision serial accepted
+answeredAny sized sound full r (calls c) = answered r (record { call = c; sized = sized; sound = sound; full = full })

@@ -4,7 +4,7 @@ use mathlib.Core.Bool.{Bool, true, false}
 use mathlib.Core.List.{List, [], _∷_, _++_}
 use lib.Dec.{eqb}
 use lib.ListN.{getD}
-use Rattle.choice.specs.Pick.{pick, _or_}
+use Rattle.choice.specs.Pick.{pick, _and_, _or_}
 use Rattle.record.specs.Answers.{Said}
 use Rattle.record.specs.declared.Outcome.{Outcome}
 use Rattle.record.specs.declared.Outcome.the-variants as O
@@ -13,7 +13,7 @@ use Rattle.demands.specs.Calls.Call.{begin, beginStructural, askStructur
 use Rattle.demands.specs.Chains.{Heard}
 
 -- what a ticket is for: the structure work of a phase, an action, the undoing of an action; unknown where it is not the ticket that
--- was given last
+-- was given last, or the report not of its kind
 pub data Item : Type 0 where
   settle apply undo : ℕ → Item
   unknown : Item
@@ -104,9 +104,27 @@ lists done undone w = record {
   undone = undone;
 }
 
--- what a reported ticket is for
-abbrev pub itemOf : ℕ → Watch → Item
-itemOf ticket w = pick (eqb ticket (w .ticket)) (w .item) unknown
+abbrev pub settles : Item → Bool
+settles (settle p) = true
+settles (apply i) = false
+settles (undo i) = false
+settles unknown = false
+
+abbrev pub applies : Item → Bool
+applies (settle p) = false
+applies (apply i) = true
+applies (undo i) = false
+applies unknown = false
+
+abbrev pub undoes : Item → Bool
+undoes (settle p) = false
+undoes (apply i) = false
+undoes (undo i) = true
+undoes unknown = false
+
+-- what a reported ticket is for, where it is the last one and the report is of its kind
+abbrev pub itemOf : (Item → Bool) → ℕ → Watch → Item
+itemOf kind ticket w = pick (eqb ticket (w .ticket) and kind (w .item)) (w .item) unknown
 
 abbrev pub notes : Item → Watch → Watch
 notes i w = pick (w .turned) (lists (w .done) (w .undone ++ (i ∷ [])) w) (lists (w .done ++ (i ∷ [])) (w .undone) w)
@@ -121,10 +139,10 @@ askedUpdate a w = pick (eqb (a .number) 20) (turns (w .turned) (max (w .started)
 abbrev pub askedRollback : Said → Watch → Watch
 askedRollback a w = pick (granted a) (turns true (w .started) (asked undo a w)) w
 
-unfoldable pub reported : ℕ → Outcome → Said → Watch → Watch
-reported ticket O.Waiting a w = w
-reported ticket (O.Failed code) a w = w
-reported ticket O.Done a w = pick (taken a) (notes (itemOf ticket w) w) w
+unfoldable pub reported : (Item → Bool) → ℕ → Outcome → Said → Watch → Watch
+reported kind ticket O.Waiting a w = w
+reported kind ticket (O.Failed code) a w = w
+reported kind ticket O.Done a w = pick (taken a) (notes (itemOf kind ticket w) w) w
 
 abbrev pub begins : Bool → ℕ → Said → Watch → Watch
 begins structural size a w = pick (performed a) (fresh (w .commits) true structural size w) w
@@ -138,9 +156,9 @@ sees w (beginStructural c o n) a = begins true n a w
 sees w askStructure a = asked settle a w
 sees w askUpdate a = askedUpdate a w
 sees w askRollback a = askedRollback a w
-sees w (reportStructure t x c o) a = reported t x a w
-sees w (reportUpdate t x) a = reported t x a w
-sees w (reportRollback t x) a = reported t x a w
+sees w (reportStructure t x c o) a = reported settles t x a w
+sees w (reportUpdate t x) a = reported applies t x a w
+sees w (reportRollback t x) a = reported undoes t x a w
 sees w (edit c o) a = w
 sees w commit a = ends (w .commits + 1) a w
 sees w (recover n) a = ends (w .commits) a w
