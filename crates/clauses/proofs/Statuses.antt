@@ -17,7 +17,9 @@ use Rattle.status.specs.declared.Entry.{Entry}
 use Rattle.status.specs.declared.Entry.the-variants.{At, No}
 use Rattle.demands.proofs.Testing.{right}
 use Rattle.demands.proofs.Granting.{clash}
-use Rattle.clauses.specs.Status.{Place, MarkClauses, linkable, initializable, Initializes, Cancels}
+use Rattle.demands.specs.Marks.{allowed}
+use Rattle.demands.specs.Marks.StatusCall.{link, initialize, cancel}
+use Rattle.clauses.specs.Status.{Place, MarkClauses, Initializes, Cancels}
 use Rattle.clauses.proofs.Splitting.{refusal-real, split}
 
 module _ (groups status : List ℕ) (id : ℕ) where
@@ -66,17 +68,17 @@ module _ (groups status : List ℕ) (id : ℕ) where
           c408 = λ i. absurd (i refl);
         })
 
-  pub link-clauses : (domain : Bool) → MarkClauses groups status id (linkable domain) (λ mark. 1) (linkLeaves groups status id domain)
-  unfolding linkLeaves
-  link-clauses domain = marks (linkable domain) (λ mark. 1) found
+  pub link-clauses : (domain : Bool) → MarkClauses groups status id (allowed (link domain)) (λ mark. 1) (linkLeaves groups status id domain)
+  unfolding linkLeaves allowed
+  link-clauses domain = marks (allowed (link domain)) (λ mark. 1) found
 
-  pub initialize-clauses : MarkClauses groups status id initializable withInitialized (initializeLeaves groups status id)
-  unfolding initializeLeaves
-  initialize-clauses = marks initializable withInitialized found
+  pub initialize-clauses : MarkClauses groups status id (allowed initialize) withInitialized (initializeLeaves groups status id)
+  unfolding initializeLeaves allowed
+  initialize-clauses = marks (allowed initialize) withInitialized found
 
-  pub cancel-clauses : MarkClauses groups status id (λ group mark. linked mark) withCancelled (cancelLeaves groups status id)
-  unfolding cancelLeaves
-  cancel-clauses = marks (λ group mark. linked mark) withCancelled found
+  pub cancel-clauses : MarkClauses groups status id (allowed cancel) withCancelled (cancelLeaves groups status id)
+  unfolding cancelLeaves allowed
+  cancel-clauses = marks (allowed cancel) withCancelled found
 
 -- each flag is set alone
 pub initialized-alone : (mark : ℕ) → Initializes mark (withInitialized mark)

@@ -13,12 +13,10 @@ use Rattle.record.specs.declared.Refusal.the-variants.{BadArea, Damaged, LogFul
 use Rattle.wholeness.specs.Whole.{whole}
 use Rattle.log.specs.Log.{count, full, sound, event}
 use Rattle.recording.specs.Recorded.{withLog}
+use Rattle.events.specs.Entries.{logOf}
 use Rattle.clauses.specs.Lending.{payload}
 
--- the log that a call leaves, and all else
-abbrev pub logged : Leaves → List ℕ
-logged v = getD (v .lent) 0 []
-
+-- all that a call leaves but the log
 abbrev pub unlogged : Leaves → Leaves
 unlogged v = leaves (v .told) (drop 1 (v .lent))
 
@@ -30,11 +28,11 @@ pub record Recorded (written : ℕ → Bool) (kind : ℕ) (r : Record) (log : Li
   pub no-room : written (inner .told .number) ≡ true → full log ≡ true → v ≡ leaves (refuse LogFull r) (log ∷ lent)
   -- C267, C308, C316, C325, C334, C343, C355, C367: the history gains the event, with the new state's serial and revision
   pub c267 : written (inner .told .number) ≡ true → full log ≡ false → sound log ≡ true →
-      logged v ≡ event kind (inner .told .number) (inner .told .state .serial) (inner .told .state .revision) log
-  pub unwritten : written (inner .told .number) ≡ false → logged v ≡ log
+      logOf v ≡ event kind (inner .told .number) (inner .told .state .serial) (inner .told .state .revision) log
+  pub unwritten : written (inner .told .number) ≡ false → logOf v ≡ log
   -- C305, C342, C354, C363, C364: an error implies `new == old`, of the record, of all that is lent, and of the log
   pub c305 : refused (v .told .number) ≡ true → (v .told .state ≡ r) × (unlogged v .lent ≡ lent)
-  pub c305-log : written (v .told .number) ≡ false → logged v ≡ log
+  pub c305-log : written (v .told .number) ≡ false → logOf v ≡ log
 
 -- v is left through any log, where all that is lent besides fits or not
 pub record Through (written : ℕ → Bool) (kind : ℕ) (r : Record) (log : List ℕ) (fits : Bool) (lent : List (List ℕ)) (inner v : Leaves) : Type 0 where
@@ -51,5 +49,5 @@ pub record OpenRecorded (revision : ℕ) (given : List ℕ) (v : Leaves) : Type 
   pub c273 : v .told .state .revision ≡ revision
   pub c274 : v .told .state .staged ≡ false
   -- no events (also C282): the count is 0, and so is every event word
-  pub c275 : count (logged v) ≡ 0
-  pub c275-words : (i : ℕ) → getD (drop 4 (logged v)) i 0 ≡ 0
+  pub c275 : count (logOf v) ≡ 0
+  pub c275-words : (i : ℕ) → getD (drop 4 (logOf v)) i 0 ≡ 0

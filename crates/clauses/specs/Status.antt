@@ -1,12 +1,11 @@
 -- The clauses of `effect_status`, `initialize_effect_status` and `cancel`: v is what link, initialize or cancel leaves. Assumes nothing.
 use Prim.Native.Nat.{ℕ, _/_, _%_, _≤_, _<_}
 use mathlib.Core.Path.{_≡_}
-use mathlib.Core.Bool.{Bool, true, not}
+use mathlib.Core.Bool.{Bool, true}
 use mathlib.Core.List.{List}
 use mathlib.Core.Logic.{_≢_, _↔_}
 use lib.ListN.{length, getD}
-use Rattle.choice.specs.Pick.{_and_}
-use Rattle.status.specs.Status.{Marks, live, settled, pending, linked, bytesSound}
+use Rattle.status.specs.Status.{Marks, linked, bytesSound}
 
 -- where 6, 7 and the id's 13 are not given
 pub record Place (groups status : List ℕ) (id : ℕ) : Type 0 where
@@ -31,14 +30,6 @@ pub record MarkClauses (groups status : List ℕ) (id : ℕ) (allowed : ℕ → 
   pub c407 : v .said .number ≡ 0 → Sets status id (next (getD status id 0)) (v .status)
   -- none implies `new == old`
   pub c408 : v .said .number ≢ 0 → v .status ≡ status
-
--- linking: a domain is present, the group is live, the status is not linked
-abbrev pub linkable : Bool → ℕ → ℕ → Bool
-linkable domain group mark = domain and live group and not (linked mark)
-
--- initializing: linked, live, settled, not pending. Upstream `None` always meets the contract
-abbrev pub initializable : ℕ → ℕ → Bool
-initializable group mark = linked mark and live group and settled group and not (pending group)
 
 -- the flags of a byte, linked, cancelled, initialized and finished: the initialized one is set alone
 pub record Initializes (mark after : ℕ) : Type 0 where

@@ -7,6 +7,7 @@ use lib.Dec.{eqb, leb, ltb}
 use Rattle.choice.specs.Pick.{_and_, _or_}
 use Rattle.phases.specs.Phases.{boundary}
 use Rattle.areas.specs.Areas.{long}
+use Rattle.batch.specs.Batch.{limit}
 use Rattle.record.specs.Fields.{top}
 use Rattle.record.specs.Live.{isLive, structure, update, rollback}
 use Rattle.record.specs.Answers.{Told}
@@ -55,7 +56,7 @@ gateRows sized sound r own = 6 when not sized ∷ 7 when not (sound and whole r)
 
 -- "Begin, begin structural: 1, 3, 8, 9."; 1: "while staged"; 3: "at revision 18446744073709551615"; 9: "over 64 actions"
 abbrev pub beginRows : Record → ℕ → ℕ → ℕ → List Row
-beginRows r c o n = 1 when r .staged ∷ 3 when eqb (r .revision) top ∷ 8 when (long c or long o) ∷ 9 when ltb 64 n ∷ 0 when otherwise ∷ []
+beginRows r c o n = 1 when r .staged ∷ 3 when eqb (r .revision) top ∷ 8 when (long c or long o) ∷ 9 when ltb limit n ∷ 0 when otherwise ∷ []
 
 -- "2; 4 if entries > 0 or phase not 0 or 13"; 2: "while not staged"
 abbrev pub recoverRows : Record → List Row → List Row
