@@ -20,7 +20,6 @@ use Rattle.demands.proofs.Leaf.{Apart}
 use Rattle.demands.proofs.Facts.{Whole, byCase}
 use Rattle.demands.proofs.Testing.{ranges}
 use Rattle.demands.proofs.Wholeness.{successor-test}
-use Rattle.demands.proofs.Moves as M
 use Rattle.demands.proofs.Moves.{Along, Undo, goes-up, goes-down, inAlong}
 use Rattle.demands.proofs.Course.{Kind, Last, Course, started, up, down, same-kind}
 use Rattle.demands.proofs.Course.Kind.{structural}

@@ -1,8 +1,7 @@
 -- On a whole record at most one asking is due. Assumes nothing.
 use Prim.Native.Nat.{ℕ, _≤_, _<_}
 use mathlib.Core.Path.{_≡_, refl, sym}
-use mathlib.Core.Bool.{Bool, true, false}
-use native.Mathlib.Omega.{arith}
+use mathlib.Core.Bool.{true, false}
 use borrow.Author.Tests.{ltb-true}
 use Rattle.choice.proofs.Tests.{never, both}
 use Rattle.record.specs.Fields.{top}

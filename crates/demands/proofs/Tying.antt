@@ -11,7 +11,6 @@ use Rattle.choice.proofs.Tests.{test, eqb-ne}
 use Rattle.record.specs.Answers.{Told, said}
 use Rattle.record.specs.Fields.{adopting}
 use Rattle.record.specs.declared.Record.{Record}
-use Rattle.record.specs.declared.Outcome.the-variants as O
 use Rattle.staging.specs.Beginning.{begun}
 use Rattle.asking.specs.Asks.{turned}
 use Rattle.reporting.specs.Done.{leaving}
