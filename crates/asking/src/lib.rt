@@ -1,12 +1,12 @@
 // The asks, as steps on the record alone: whether work is due, and a ticket for it. Asking counts as starting.
 use phases::Phase;
 use record::Answer;
+use record::Lent;
 use record::Live;
 use record::Record;
 use record::Refusal;
 use record::Stepped;
 use wholeness::Gate;
-use wholeness::Lent;
 ghost use mathlib.Core.Path.{_≡_};
 ghost use Rattle.record.specs.Answers.{tells};
 ghost use Rattle.asking.specs.Asks.{askStructureStep, askUpdateStep, askRollbackStep, turned};

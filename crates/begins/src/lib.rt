@@ -1,19 +1,20 @@
 // Opening, beginning a transaction and editing what is staged, with what is lent.
+use record::Lent;
+use record::Opening;
 use record::Record;
 use record::Stepped;
-use staging::Opening;
-use wholeness::Lent;
 ghost use mathlib.Core.Path.{_≡_};
 ghost use mathlib.Core.List.{_∷_, []};
 ghost use mathlib.Core.Bool.{true, false};
 ghost use Rattle.record.specs.Answers.{tells};
 ghost use Rattle.record.specs.Leaves.{leaves};
-ghost use Rattle.begins.specs.Opens.{openLeaves};
-ghost use Rattle.begins.specs.Begins.{beginLeaves, editLeaves};
+ghost use Rattle.calls.specs.Lending.{leavesOf, unopened};
+ghost use Rattle.calls.specs.Lending.Lending.{openAt, begin, edit};
 
 // A new record, with an accepted payload.
 pub fn open(given: Opening, accepted: &mut [u8], payload: &[u8]) -> Stepped
-    ensures { λ s. ⌜ leaves (tells s) (now (accepted .exit) ∷ []) ≡ openLeaves (given .revision) (given .serial) (now (accepted .entry)) (now (payload .entry)) ⌝ }
+    ensures { λ s. ⌜ leaves (tells s) (now (accepted .exit) ∷ [])
+        ≡ leavesOf unopened (openAt (given .revision) (given .serial) (now (accepted .entry)) (now (payload .entry))) ⌝ }
 {
     let stepped = staging::open(accepted.len() == areas::SIZE, given, payload.len());
     let answer = stepped.answer;
@@ -35,7 +36,9 @@ fn begin_in(
     old: &[u8],
     pairs: &[u64],
 ) -> Stepped
-    ensures { λ s. ⌜ leaves (tells s) (now (candidate .exit) ∷ now (recovery .exit) ∷ now (table .exit) ∷ []) ≡ beginLeaves structural r (now (candidate .entry)) (now (recovery .entry)) (now (table .entry)) (now (new .entry)) (now (old .entry)) (now (pairs .entry)) ⌝ }
+    ensures { λ s. ⌜ leaves (tells s) (now (candidate .exit) ∷ now (recovery .exit) ∷ now (table .exit) ∷ [])
+        ≡ leavesOf r (begin structural (now (candidate .entry)) (now (recovery .entry)) (now (table .entry))
+        (now (new .entry)) (now (old .entry)) (now (pairs .entry))) ⌝ }
 {
     let lent = Lent {
         sized: (candidate.len() == areas::SIZE)
@@ -65,7 +68,9 @@ pub fn begin(
     old: &[u8],
     pairs: &[u64],
 ) -> Stepped
-    ensures { λ s. ⌜ leaves (tells s) (now (candidate .exit) ∷ now (recovery .exit) ∷ now (table .exit) ∷ []) ≡ beginLeaves false r (now (candidate .entry)) (now (recovery .entry)) (now (table .entry)) (now (new .entry)) (now (old .entry)) (now (pairs .entry)) ⌝ }
+    ensures { λ s. ⌜ leaves (tells s) (now (candidate .exit) ∷ now (recovery .exit) ∷ now (table .exit) ∷ [])
+        ≡ leavesOf r (begin false (now (candidate .entry)) (now (recovery .entry)) (now (table .entry))
+        (now (new .entry)) (now (old .entry)) (now (pairs .entry))) ⌝ }
 {
     begin_in(false, r, candidate, recovery, table, new, old, pairs)
 }
@@ -80,14 +85,17 @@ pub fn begin_structural(
     old: &[u8],
     pairs: &[u64],
 ) -> Stepped
-    ensures { λ s. ⌜ leaves (tells s) (now (candidate .exit) ∷ now (recovery .exit) ∷ now (table .exit) ∷ []) ≡ beginLeaves true r (now (candidate .entry)) (now (recovery .entry)) (now (table .entry)) (now (new .entry)) (now (old .entry)) (now (pairs .entry)) ⌝ }
+    ensures { λ s. ⌜ leaves (tells s) (now (candidate .exit) ∷ now (recovery .exit) ∷ now (table .exit) ∷ [])
+        ≡ leavesOf r (begin true (now (candidate .entry)) (now (recovery .entry)) (now (table .entry))
+        (now (new .entry)) (now (old .entry)) (now (pairs .entry))) ⌝ }
 {
     begin_in(true, r, candidate, recovery, table, new, old, pairs)
 }
 
 // Replaces both staged payloads.
 pub fn edit(r: Record, candidate: &mut [u8], recovery: &mut [u8], new: &[u8], old: &[u8]) -> Stepped
-    ensures { λ s. ⌜ leaves (tells s) (now (candidate .exit) ∷ now (recovery .exit) ∷ []) ≡ editLeaves r (now (candidate .entry)) (now (recovery .entry)) (now (new .entry)) (now (old .entry)) ⌝ }
+    ensures { λ s. ⌜ leaves (tells s) (now (candidate .exit) ∷ now (recovery .exit) ∷ [])
+        ≡ leavesOf r (edit (now (candidate .entry)) (now (recovery .entry)) (now (new .entry)) (now (old .entry))) ⌝ }
 {
     let lent = Lent {
         sized: (candidate.len() == areas::SIZE) & (recovery.len() == areas::SIZE),

@@ -17,8 +17,9 @@ use Rattle.wholeness.specs.Whole.{whole}
 use Rattle.staging.specs.Beginning.{beginOwn}
 use Rattle.asking.specs.Asks.{turned, askRollbackOwn}
 use Rattle.settling.specs.Ending.{unrestored, recoverOwn, recoverRetainedOwn}
-use Rattle.demands.specs.Calls.{step}
-use Rattle.demands.specs.Calls.Call.{begin, beginStructural, askRollback, recover, recoverRetained}
+use Rattle.calls.specs.Calls.{step}
+use Rattle.calls.specs.Calls.Work.{rollback}
+use Rattle.calls.specs.Calls.Call.{begin, ask, recover, recoverRetained}
 use Rattle.demands.proofs.Own.{own}
 use Rattle.demands.proofs.Reading.{whole-facts}
 use Rattle.demands.proofs.Moves.{turn}
@@ -28,9 +29,9 @@ use Rattle.clauses.specs.Gaps.BeginAnswer.{pending, capacity, tooLong, t
 use Rattle.clauses.proofs.Splitting.{Kept, fitting, by, on-step}
 
 module _ (r : Record) (m : r .revision ≤ top) (w : whole r ≡ true) where
-  pub rollback-asked-phase : RollbackAsked r (step r askRollback)
+  pub rollback-asked-phase : RollbackAsked r (step r (ask rollback))
   unfolding own askRollbackOwn turned
-  rollback-asked-phase = on-step (RollbackAsked r) r askRollback m w
+  rollback-asked-phase = on-step (RollbackAsked r) r (ask rollback) m w
       (by (RollbackAsked r) _ (λ e k. record {
         empty = λ i j. absurd (omega tests);
         some = λ i j. absurd (omega tests);
@@ -75,13 +76,13 @@ module _ (r : Record) (m : r .revision ≤ top) (w : whole r ≡ true) where
         by Begins _ (λ e k. tooMany e₁ (eqb-ne _ _ e₂) (x .0) (x .1) (ltb-true _ _ e))
         (λ e₄ k. begins (record { idle = e₁; room = eqb-ne _ _ e₂; candidate = x .0; recovery = x .1; few = ltb-false _ _ e₄ })))))
 
-    pub begin-answer : BeginAnswer r c o n (step r (begin c o n) .number)
+    pub begin-answer : BeginAnswer r c o n (step r (begin false c o n) .number)
     unfolding own
-    begin-answer = on-step Begins r (begin c o n) m w (begin-own false)
+    begin-answer = on-step Begins r (begin false c o n) m w (begin-own false)
 
-    pub begin-structural-answer : BeginAnswer r c o n (step r (beginStructural c o n) .number)
+    pub begin-structural-answer : BeginAnswer r c o n (step r (begin true c o n) .number)
     unfolding own
-    begin-structural-answer = on-step Begins r (beginStructural c o n) m w (begin-own true)
+    begin-structural-answer = on-step Begins r (begin true c o n) m w (begin-own true)
 
   module _ (n : ℕ) where
     abbrev Recovers : Told → Type 0

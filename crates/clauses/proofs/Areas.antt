@@ -16,8 +16,7 @@ use Rattle.record.specs.Fields.{top}
 use Rattle.record.specs.declared.Record.{Record}
 use Rattle.record.specs.declared.Outcome.{Outcome}
 use Rattle.wholeness.specs.Whole.{whole}
-use Rattle.begins.specs.Begins.{beginLeaves, editLeaves}
-use Rattle.reports.specs.Reports.{reportStructureLeaves, reportUpdateLeaves, reportRollbackLeaves}
+use Rattle.calls.specs.Lending.{Stored, Lending, leavesOf}
 use Rattle.clauses.specs.Keeping.{Stores}
 use Rattle.clauses.specs.Lending.{Lends, Stages, Holds, SameIdentities}
 use Rattle.clauses.specs.Staging.{BeginClauses}
@@ -58,10 +57,10 @@ module _ (r : Record) (m : r .revision ≤ top) (w : whole r ≡ true) (c o : Li
           record { number = g .c153; updates = rw l (pairs-copied pairs t (q .1) (even (length pairs) (z .1) (a .few))) },
         )
 
-    pub begin-areas : beginLeaves false r c o t new old pairs .told .number ≡ 0 → Stages new old (beginLeaves false r c o t new old pairs) × Holds pairs (beginLeaves false r c o t new old pairs)
+    pub begin-areas : leavesOf r (Lending.begin false c o t new old pairs) .told .number ≡ 0 → Stages new old (leavesOf r (Lending.begin false c o t new old pairs)) × Holds pairs (leavesOf r (Lending.begin false c o t new old pairs))
     begin-areas = begun (begin-lends r c o t new old pairs) (begin-clauses r (length new) (length old) (length pairs / 2) m w)
 
-    pub begin-structural-areas : beginLeaves true r c o t new old pairs .told .number ≡ 0 → Stages new old (beginLeaves true r c o t new old pairs) × Holds pairs (beginLeaves true r c o t new old pairs)
+    pub begin-structural-areas : leavesOf r (Lending.begin true c o t new old pairs) .told .number ≡ 0 → Stages new old (leavesOf r (Lending.begin true c o t new old pairs)) × Holds pairs (leavesOf r (Lending.begin true c o t new old pairs))
     begin-structural-areas = begun (begin-structural-lends r c o t new old pairs) (begin-structural-clauses r (length new) (length old) (length pairs / 2) m w)
 
   -- `pending_mut` and `work`, and what `structural_call` leaves
@@ -73,10 +72,10 @@ module _ (r : Record) (m : r .revision ≤ top) (w : whole r ≡ true) (c o : Li
         let k = of-told (λ t. refused (t .number) ≡ false → Stores (length new) (length old) (t .state)) x s f h in
         stages c o new old _ _ (u .0) (u .1) (k .candidate-fits) (k .recovery-fits) (k .candidate) (k .recovery) (x .moves h)
 
-    pub edit-areas : refused (editLeaves r c o new old .told .number) ≡ false → Stages new old (editLeaves r c o new old)
+    pub edit-areas : refused (leavesOf r (Lending.edit c o new old) .told .number) ≡ false → Stages new old (leavesOf r (Lending.edit c o new old))
     edit-areas = replaced (edit-lends r c o new old) (edit-stores r (length new) (length old) m w)
 
-    pub report-structure-areas : (k : ℕ) (x : Outcome) → refused (reportStructureLeaves r c o k x new old .told .number) ≡ false → Stages new old (reportStructureLeaves r c o k x new old)
+    pub report-structure-areas : (k : ℕ) (x : Outcome) → refused (leavesOf r (Lending.report (Stored.structured c o new old) k x) .told .number) ≡ false → Stages new old (leavesOf r (Lending.report (Stored.structured c o new old) k x))
     report-structure-areas k x = replaced (report-structure-lends r c o k x new old) (report-stores r m w k x (length new) (length old))
 
 -- the table that a report is lent, whether it is refused or not
@@ -86,8 +85,8 @@ module _ (r : Record) (t : List ℕ) (k : ℕ) (x : Outcome) (value : ℕ) where
     identities = λ j. test (refused (v .told .number)) (λ e. rw (l .stays e)) (λ e. rw (l .moves e) (stored-identities t i value j));
   }
 
-  pub update-identities : SameIdentities t (reportUpdateLeaves r t k x value)
+  pub update-identities : SameIdentities t (leavesOf r (Lending.report (Stored.updated t value) k x))
   update-identities = identified (r .applied) (report-update-lends r t k x value)
 
-  pub rollback-identities : SameIdentities t (reportRollbackLeaves r t k x value)
+  pub rollback-identities : SameIdentities t (leavesOf r (Lending.report (Stored.rolledBack t value) k x))
   rollback-identities = identified (r .entries - 1) (report-rollback-lends r t k x value)

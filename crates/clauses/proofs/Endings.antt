@@ -17,8 +17,8 @@ use Rattle.record.specs.declared.Refusal.{Refusal}
 use Rattle.record.specs.declared.Refusal.the-variants.{Idle, NotReady, TooLong}
 use Rattle.wholeness.specs.Whole.{whole, complete}
 use Rattle.settling.specs.Ending.{settled, commitOwn, unrestored, recoveredTo, recoverOwn, recoverRetainedOwn}
-use Rattle.demands.specs.Calls.{step}
-use Rattle.demands.specs.Calls.Call.{commit, recover, recoverRetained}
+use Rattle.calls.specs.Calls.{step}
+use Rattle.calls.specs.Calls.Call.{commit, recover, recoverRetained}
 use Rattle.demands.proofs.Own.{own}
 use Rattle.demands.proofs.Reading.{whole-facts}
 use Rattle.demands.proofs.Testing.{ranges}

@@ -11,7 +11,8 @@ use Rattle.choice.proofs.Tests.{eqb-ne}
 use Rattle.areas.specs.Areas.{areaSize}
 use Rattle.phases.specs.Phases.{updates, adopt, undo, recoverRemove}
 use Rattle.record.specs.Answers.{Told}
-use Rattle.record.specs.Live.{isLive, structure}
+use Rattle.record.specs.Live.{isLive}
+use Rattle.record.specs.Live as Tickets
 use Rattle.record.specs.Fields.{top, spent, adopting}
 use Rattle.record.specs.declared.Record.{Record}
 use Rattle.record.specs.declared.Outcome.{Outcome}
@@ -20,8 +21,10 @@ use Rattle.wholeness.specs.Whole.{whole}
 use Rattle.asking.specs.Asks.{askStructureOwn, askUpdateOwn}
 use Rattle.reporting.specs.Done.{leaving, structureDone, updateDone, rollbackDone}
 use Rattle.reporting.specs.Reports.{reported, reportStructureOwn}
-use Rattle.demands.specs.Calls.{step}
-use Rattle.demands.specs.Calls.Call.{askStructure, askUpdate, reportStructure, reportUpdate, reportRollback}
+use Rattle.calls.specs.Calls.{step}
+use Rattle.calls.specs.Calls.Work.{structure, update}
+use Rattle.calls.specs.Calls.Report.{structured, updated, rolledBack}
+use Rattle.calls.specs.Calls.Call.{ask, report}
 use Rattle.demands.proofs.Own.{own}
 use Rattle.demands.proofs.Granting.{clash}
 use Rattle.demands.proofs.Moves.{choice}
@@ -31,17 +34,17 @@ use Rattle.clauses.proofs.Onward.{no-successor, ended, exclusive, onwar
 
 module _ (r : Record) (m : r .revision ≤ top) (w : whole r ≡ true) where
   -- a Done report with the live ticket, whose payloads fit
-  pub report-advances : (t c o : ℕ) → isLive structure t (r .live) ≡ true → c ≤ areaSize → o ≤ areaSize → Succeeds r (step r (reportStructure t O.Done c o))
+  pub report-advances : (t c o : ℕ) → isLive Tickets.structure t (r .live) ≡ true → c ≤ areaSize → o ≤ areaSize → Succeeds r (step r (report (structured c o) t O.Done))
   unfolding own reportStructureOwn reported structureDone
-  report-advances t c o l x y = on-step (Succeeds r) r (reportStructure t O.Done c o) m w
+  report-advances t c o l x y = on-step (Succeeds r) r (report (structured c o) t O.Done) m w
       (by (Succeeds r) _ (λ e. by (Succeeds r) _ (λ d. absurd (too-long c o d x y)) (λ d.
       by (Succeeds r) _ (λ i k. record { onward = onwards r m w t l c o; finished = λ j. refl; more = clash _ i })
       (λ i k. record { onward = onwards r m w t l c o; finished = λ j. clash _ j i; more = λ j. refl })))
       (λ e. clash _ l e))
 
-  pub structure-answers : StructureAsked r (step r askStructure)
+  pub structure-answers : StructureAsked r (step r (ask structure))
   unfolding own askStructureOwn
-  structure-answers = on-step (StructureAsked r) r askStructure m w
+  structure-answers = on-step (StructureAsked r) r (ask structure) m w
       (by (StructureAsked r) _ (λ e k. record {
         notReady = λ i. refl;
         finished = exclusive (r .phase .number) e;
@@ -84,9 +87,9 @@ module _ (r : Record) (m : r .revision ≤ top) (w : whole r ≡ true) where
   abbrev Undoing : Told → Type 0
   Undoing = AtFinished undo recoverRemove r
 
-  pub update-asked-phase : Updating (step r askUpdate)
+  pub update-asked-phase : Updating (step r (ask update))
   unfolding own askUpdateOwn adopting
-  update-asked-phase = on-step Updating r askUpdate m w
+  update-asked-phase = on-step Updating r (ask update) m w
       (by Updating _ (λ e k. stands (λ i. absurd (omega arith)) refl) (λ e₁. by Updating _ (λ e k. turns refl refl) (λ e₂.
       by Updating _ (λ e k. stands (λ i. absurd (omega arith)) refl) (λ e₃ k. stands (λ i. absurd (omega arith)) refl))))
 
@@ -96,9 +99,9 @@ module _ (r : Record) (m : r .revision ≤ top) (w : whole r ≡ true) where
   update-taken (O.Failed code) = λ k. stands (λ i. absurd (omega arith)) refl
   update-taken O.Done = by Updating _ (λ e k. turns refl refl) (λ e k. stands (λ i. absurd (omega arith)) refl)
 
-  pub update-reported-phase : (t : ℕ) (x : Outcome) → Updating (step r (reportUpdate t x))
+  pub update-reported-phase : (t : ℕ) (x : Outcome) → Updating (step r (report updated t x))
   unfolding own
-  update-reported-phase t x = on-step Updating r (reportUpdate t x) m w (by Updating _ (λ e. update-taken x) (λ e k. stands (λ i. absurd (omega arith)) refl))
+  update-reported-phase t x = on-step Updating r (report updated t x) m w (by Updating _ (λ e. update-taken x) (λ e k. stands (λ i. absurd (omega arith)) refl))
 
   rollback-taken : (x : Outcome) → Kept Undoing (reported x (spent r) (rollbackDone (spent r)))
   unfolding reported rollbackDone leaving
@@ -106,6 +109,6 @@ module _ (r : Record) (m : r .revision ≤ top) (w : whole r ≡ true) where
   rollback-taken (O.Failed code) = λ k. stands (λ i. absurd (omega arith)) refl
   rollback-taken O.Done = by Undoing _ (λ e k. turns refl refl) (λ e k. stands (λ i. absurd (omega arith)) refl)
 
-  pub rollback-reported-phase : (t : ℕ) (x : Outcome) → Undoing (step r (reportRollback t x))
+  pub rollback-reported-phase : (t : ℕ) (x : Outcome) → Undoing (step r (report rolledBack t x))
   unfolding own
-  rollback-reported-phase t x = on-step Undoing r (reportRollback t x) m w (by Undoing _ (λ e. rollback-taken x) (λ e k. stands (λ i. absurd (omega arith)) refl))
+  rollback-reported-phase t x = on-step Undoing r (report rolledBack t x) m w (by Undoing _ (λ e. rollback-taken x) (λ e k. stands (λ i. absurd (omega arith)) refl))

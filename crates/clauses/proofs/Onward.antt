@@ -10,7 +10,8 @@ use Rattle.choice.specs.Pick.{pick, _or_}
 use Rattle.choice.proofs.Tests.{either, neither}
 use Rattle.phases.specs.Phases.{hasSuccessor, successor, boundary}
 use Rattle.phases.specs.declared.Next.the-variants.{To}
-use Rattle.record.specs.Live.{isLive, structure}
+use Rattle.record.specs.Live.{isLive}
+use Rattle.record.specs.Live as Tickets
 use Rattle.record.specs.Fields.{top, spent}
 use Rattle.record.specs.declared.Record.{Record}
 use Rattle.record.specs.declared.Live.{Live}
@@ -64,7 +65,7 @@ has-one p m e d =
     let z = neither d in
     successor-test p m (omega (tests, y, z, x .1))
 
-module _ (r : Record) (m : r .revision ≤ top) (w : whole r ≡ true) (t : ℕ) (l : isLive structure t (r .live) ≡ true) where
+module _ (r : Record) (m : r .revision ≤ top) (w : whole r ≡ true) (t : ℕ) (l : isLive Tickets.structure t (r .live) ≡ true) where
   apart : Apart (r .phase .number)
   apart = onStructure (whole-facts r m w) l .apart
 

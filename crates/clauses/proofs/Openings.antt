@@ -15,10 +15,11 @@ use Rattle.record.specs.Fields.{top}
 use Rattle.wholeness.specs.Whole.{whole}
 use Rattle.staging.specs.Opening.{opening, openStep}
 use Rattle.settling.specs.Ending.{settled}
-use Rattle.begins.specs.Opens.{openLeaves}
 use Rattle.log.specs.Log.{logSized, roomOf, blank}
 use Rattle.recording.specs.Recorded.{withLog}
-use Rattle.logged_begins.specs.Begins.{openRecorded}
+use Rattle.calls.specs.Lending.{Lending, leavesOf, unopened}
+use Rattle.calls.specs.Kinds.{kindOf, writtenAs}
+use Rattle.recording.specs.Through.{leavesThrough}
 use Rattle.demands.proofs.Wholeness.{whole-test}
 use Rattle.demands.proofs.Advancing.{idles}
 use Rattle.demands.proofs.Granting.{clash}
@@ -66,8 +67,7 @@ moved : (t : Told) (lent after : List (List ℕ)) → t .number ≡ 0 → moving
 moved t lent after h = sym (no _ (performed-real h) refl)
 
 module _ (v s : ℕ) (m : v ≤ top) (a given : List ℕ) where
-  pub open-areas : openLeaves v s a given .told .number ≡ 0 → Opens given (openLeaves v s a given)
-  unfolding openLeaves
+  pub open-areas : leavesOf unopened (Lending.openAt v s a given) .told .number ≡ 0 → Opens given (leavesOf unopened (Lending.openAt v s a given))
   open-areas h =
       let x = open-clauses (sized a) v s (length given) m in
       let y = x .fits .0 h in
@@ -83,8 +83,8 @@ module _ (v s : ℕ) (m : v ≤ top) (a given : List ℕ) where
   unfolding blank logSized
   blank-is log e = let x = both (both e .0) in sym (no _ (le-ltb (length log) 8 (omega (tests, x .0))) refl)
 
-  pub open-recorded : (log : List ℕ) → openRecorded v s log a given .told .number ≡ 0 → OpenRecorded v given (openRecorded v s log a given)
-  unfolding openRecorded withLog
+  pub open-recorded : (log : List ℕ) → leavesThrough unopened log (Lending.openAt v s a given) .told .number ≡ 0 → OpenRecorded v given (leavesThrough unopened log (Lending.openAt v s a given))
+  unfolding leavesThrough withLog
   open-recorded log h =
       let t = openStep (withLog (sized a) log .sized) v s (length given) in
       let x = open-clauses (withLog (sized a) log .sized) v s (length given) m in

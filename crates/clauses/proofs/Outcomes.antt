@@ -8,7 +8,7 @@ use Rattle.choice.proofs.Picks.{yes, no}
 use Rattle.choice.proofs.Tests.{test}
 use Rattle.areas.specs.Areas.{areaSize, long}
 use Rattle.record.specs.Answers.{Told}
-use Rattle.record.specs.Live.{structure, update, rollback}
+use Rattle.record.specs.Live as Tickets
 use Rattle.record.specs.Fields.{spent}
 use Rattle.record.specs.declared.Record.{Record}
 use Rattle.record.specs.declared.Outcome.{Outcome}
@@ -16,8 +16,9 @@ use Rattle.record.specs.declared.Outcome.the-variants as O
 use Rattle.wholeness.specs.Whole.{whole}
 use Rattle.reporting.specs.Done.{structureDone, updateDone, rollbackDone}
 use Rattle.reporting.specs.Reports.{storing, reported, reportStructureOwn}
-use Rattle.demands.specs.Calls.{step}
-use Rattle.demands.specs.Calls.Call.{reportStructure, reportUpdate, reportRollback}
+use Rattle.calls.specs.Calls.{step}
+use Rattle.calls.specs.Calls.Report.{structured, updated, rolledBack}
+use Rattle.calls.specs.Calls.Call.{report}
 use Rattle.demands.proofs.Own.{live, own, whole-step}
 use Rattle.clauses.specs.Polls.{ReportAnswers}
 use Rattle.clauses.proofs.Splitting.{too-long}
@@ -34,13 +35,13 @@ module _ (r : Record) where
   }
 
   module _ (w : whole r ≡ true) (ticket : ℕ) where
-    pub update-outcomes : ReportAnswers update ticket r (spent r) (λ x. step r (reportUpdate ticket x))
+    pub update-outcomes : ReportAnswers Tickets.update ticket r (spent r) (λ x. step r (report updated ticket x))
     unfolding own
-    update-outcomes = reports update ticket (spent r) (updateDone (spent r)) _ (λ x. whole-step r (reportUpdate ticket x) w)
+    update-outcomes = reports Tickets.update ticket (spent r) (updateDone (spent r)) _ (λ x. whole-step r (report updated ticket x) w)
 
-    pub rollback-outcomes : ReportAnswers rollback ticket r (spent r) (λ x. step r (reportRollback ticket x))
+    pub rollback-outcomes : ReportAnswers Tickets.rollback ticket r (spent r) (λ x. step r (report rolledBack ticket x))
     unfolding own
-    rollback-outcomes = reports rollback ticket (spent r) (rollbackDone (spent r)) _ (λ x. whole-step r (reportRollback ticket x) w)
+    rollback-outcomes = reports Tickets.rollback ticket (spent r) (rollbackDone (spent r)) _ (λ x. whole-step r (report rolledBack ticket x) w)
 
     module _ (c o : ℕ) (p : c ≤ areaSize) (q : o ≤ areaSize) where
       -- payloads that fit are not refused 8
@@ -48,7 +49,7 @@ module _ (r : Record) where
       unfolding reportStructureOwn
       fits x = sym (no _ (test (long c or long o) (λ e. absurd (too-long c o e p q)) (λ e. e)) refl)
 
-      pub structure-outcomes : ReportAnswers structure ticket r (spent (storing c o r)) (λ x. step r (reportStructure ticket x c o))
+      pub structure-outcomes : ReportAnswers Tickets.structure ticket r (spent (storing c o r)) (λ x. step r (report (structured c o) ticket x))
       unfolding own
-      structure-outcomes = reports structure ticket (spent (storing c o r)) (structureDone (spent (storing c o r))) _
-          (λ x. whole-step r (reportStructure ticket x c o) w ∙ ap (live structure ticket r) (fits x))
+      structure-outcomes = reports Tickets.structure ticket (spent (storing c o r)) (structureDone (spent (storing c o r))) _
+          (λ x. whole-step r (report (structured c o) ticket x) w ∙ ap (live Tickets.structure ticket r) (fits x))

@@ -11,17 +11,15 @@ use Rattle.record.specs.Leaves.{moving}
 use Rattle.record.specs.declared.Record.{Record}
 use Rattle.record.specs.declared.Outcome.{Outcome}
 use Rattle.wholeness.specs.Gates.{gateOf, gated}
-use Rattle.begins.specs.Begins.{beginLeaves}
 use Rattle.reporting.specs.Reports.{behind, reportGate}
-use Rattle.reports.specs.Reports.{reportStructureLeaves, reportUpdateLeaves, reportRollbackLeaves}
-use Rattle.ends.specs.Ends.{commitLeaves, recoverLeaves, recoverRetainedLeaves, refreshLeaves}
-use Rattle.recording.specs.Recorded.{stepWritten, callWritten}
-use Rattle.recording.specs.Asks.{askStructureRecorded, askUpdateRecorded, askRollbackRecorded}
-use Rattle.logged_begins.specs.Begins.{beginKind, beginRecorded}
-use Rattle.logged_reports.specs.Reports.{reportStructureRecorded, reportUpdateRecorded, reportRollbackRecorded}
-use Rattle.logged_ends.specs.Ends.{commitRecorded, recoverRecorded, recoverRetainedRecorded, refreshRecorded}
-use Rattle.demands.specs.Calls.{stepWith, step}
-use Rattle.demands.specs.Calls.Call.{begin, beginStructural, askStructure, askUpdate, askRollback, reportStructure, reportUpdate, reportRollback, commit, recover, recoverRetained, refresh}
+use Rattle.calls.specs.Calls.{stepOf, stepWith, step}
+use Rattle.calls.specs.Calls.Work.{structure, update, rollback}
+use Rattle.calls.specs.Calls.Report.{structured, updated, rolledBack}
+use Rattle.calls.specs.Calls.Call.{begin, ask, report, commit, recover, recoverRetained, refresh}
+use Rattle.calls.specs.Lending.{Stored, Lending, leavesOf}
+use Rattle.calls.specs.Kinds.{kindOf, stepWritten, callWritten, writtenAs}
+use Rattle.recording.specs.Through.{leavesThrough}
+use Rattle.calls.specs.Calls.{Work}
 use Rattle.clauses.specs.Recording.{Through}
 use Rattle.clauses.proofs.Recordings.{joined}
 
@@ -37,61 +35,61 @@ unwritten-calls = (refl, refl)
 module _ (r : Record) (log : List ℕ) where
   pub begin-recorded : (c o t new old pairs : List ℕ) →
       Through callWritten 1 r log (sized c and sized o and tableSized t and paired pairs) (c ∷ o ∷ t ∷ [])
-      (beginLeaves false r c o t new old pairs) (beginRecorded false r log c o t new old pairs)
-  unfolding beginLeaves beginRecorded beginKind stepWith gateOf gated pick
-  begin-recorded c o t new old pairs = joined callWritten 1 r log (begin (length new) (length old) (length pairs / 2)) _ _ _ unwritten-calls (λ b. refl) (λ b e. rw e)
+      (leavesOf r (Lending.begin false c o t new old pairs)) (leavesThrough r log (Lending.begin false c o t new old pairs))
+  unfolding leavesThrough kindOf writtenAs gateOf gated pick _and_
+  begin-recorded c o t new old pairs = joined callWritten 1 r log (begin false (length new) (length old) (length pairs / 2)) _ _ _ unwritten-calls (λ b. refl) (λ b e. rw e)
 
   pub begin-structural-recorded : (c o t new old pairs : List ℕ) →
       Through callWritten 2 r log (sized c and sized o and tableSized t and paired pairs) (c ∷ o ∷ t ∷ [])
-      (beginLeaves true r c o t new old pairs) (beginRecorded true r log c o t new old pairs)
-  unfolding beginLeaves beginRecorded beginKind stepWith gateOf gated pick
-  begin-structural-recorded c o t new old pairs = joined callWritten 2 r log (beginStructural (length new) (length old) (length pairs / 2)) _ _ _ unwritten-calls (λ b. refl) (λ b e. rw e)
+      (leavesOf r (Lending.begin true c o t new old pairs)) (leavesThrough r log (Lending.begin true c o t new old pairs))
+  unfolding leavesThrough kindOf writtenAs gateOf gated pick _and_
+  begin-structural-recorded c o t new old pairs = joined callWritten 2 r log (begin true (length new) (length old) (length pairs / 2)) _ _ _ unwritten-calls (λ b. refl) (λ b e. rw e)
 
-  pub ask-structure-recorded : Through stepWritten 3 r log true [] (moving (step r askStructure) [] []) (askStructureRecorded r log)
-  unfolding askStructureRecorded stepWith step gateOf gated pick
-  ask-structure-recorded = joined stepWritten 3 r log askStructure _ _ _ unwritten-steps (λ b. refl) (λ b e. rw e)
+  pub ask-structure-recorded : Through stepWritten 3 r log true [] (moving (step r (ask structure)) [] []) (leavesThrough r log (Lending.ask Work.structure))
+  unfolding leavesThrough kindOf writtenAs gateOf gated pick _and_
+  ask-structure-recorded = joined stepWritten 3 r log (ask structure) _ _ _ unwritten-steps (λ b. refl) (λ b e. rw e)
 
-  pub ask-update-recorded : Through stepWritten 5 r log true [] (moving (step r askUpdate) [] []) (askUpdateRecorded r log)
-  unfolding askUpdateRecorded stepWith step gateOf gated pick
-  ask-update-recorded = joined stepWritten 5 r log askUpdate _ _ _ unwritten-steps (λ b. refl) (λ b e. rw e)
+  pub ask-update-recorded : Through stepWritten 5 r log true [] (moving (step r (ask update)) [] []) (leavesThrough r log (Lending.ask Work.update))
+  unfolding leavesThrough kindOf writtenAs gateOf gated pick _and_
+  ask-update-recorded = joined stepWritten 5 r log (ask update) _ _ _ unwritten-steps (λ b. refl) (λ b e. rw e)
 
-  pub ask-rollback-recorded : Through stepWritten 7 r log true [] (moving (step r askRollback) [] []) (askRollbackRecorded r log)
-  unfolding askRollbackRecorded stepWith step gateOf gated pick
-  ask-rollback-recorded = joined stepWritten 7 r log askRollback _ _ _ unwritten-steps (λ b. refl) (λ b e. rw e)
+  pub ask-rollback-recorded : Through stepWritten 7 r log true [] (moving (step r (ask rollback)) [] []) (leavesThrough r log (Lending.ask Work.rollback))
+  unfolding leavesThrough kindOf writtenAs gateOf gated pick _and_
+  ask-rollback-recorded = joined stepWritten 7 r log (ask rollback) _ _ _ unwritten-steps (λ b. refl) (λ b e. rw e)
 
   pub report-structure-recorded : (c o : List ℕ) (k : ℕ) (x : Outcome) (new old : List ℕ) →
-      Through stepWritten 4 r log (sized c and sized o) (c ∷ o ∷ []) (reportStructureLeaves r c o k x new old)
-      (reportStructureRecorded r log c o k x new old)
-  unfolding reportStructureLeaves reportStructureRecorded stepWith gateOf gated reportGate behind pick
-  report-structure-recorded c o k x new old = joined stepWritten 4 r log (reportStructure k x (length new) (length old)) _ _ _ unwritten-steps (λ b. refl) (λ b e. rw e)
+      Through stepWritten 4 r log (sized c and sized o) (c ∷ o ∷ []) (leavesOf r (Lending.report (Stored.structured c o new old) k x))
+      (leavesThrough r log (Lending.report (Stored.structured c o new old) k x))
+  unfolding leavesThrough kindOf writtenAs gateOf gated reportGate behind pick _and_
+  report-structure-recorded c o k x new old = joined stepWritten 4 r log (report (structured (length new) (length old)) k x) _ _ _ unwritten-steps (λ b. refl) (λ b e. rw e)
 
   pub report-update-recorded : (t : List ℕ) (k : ℕ) (x : Outcome) (value : ℕ) →
-      Through stepWritten 6 r log (tableSized t) (t ∷ []) (reportUpdateLeaves r t k x value) (reportUpdateRecorded r log t k x value)
-  unfolding reportUpdateLeaves reportUpdateRecorded stepWith gateOf gated reportGate behind pick
-  report-update-recorded t k x value = joined stepWritten 6 r log (reportUpdate k x) _ _ _ unwritten-steps (λ b. refl) (λ b e. rw e)
+      Through stepWritten 6 r log (tableSized t) (t ∷ []) (leavesOf r (Lending.report (Stored.updated t value) k x)) (leavesThrough r log (Lending.report (Stored.updated t value) k x))
+  unfolding leavesThrough kindOf writtenAs gateOf gated reportGate behind pick _and_
+  report-update-recorded t k x value = joined stepWritten 6 r log (report updated k x) _ _ _ unwritten-steps (λ b. refl) (λ b e. rw e)
 
   pub report-rollback-recorded : (t : List ℕ) (k : ℕ) (x : Outcome) (value : ℕ) →
-      Through stepWritten 8 r log (tableSized t) (t ∷ []) (reportRollbackLeaves r t k x value) (reportRollbackRecorded r log t k x value)
-  unfolding reportRollbackLeaves reportRollbackRecorded stepWith gateOf gated reportGate behind pick
-  report-rollback-recorded t k x value = joined stepWritten 8 r log (reportRollback k x) _ _ _ unwritten-steps (λ b. refl) (λ b e. rw e)
+      Through stepWritten 8 r log (tableSized t) (t ∷ []) (leavesOf r (Lending.report (Stored.rolledBack t value) k x)) (leavesThrough r log (Lending.report (Stored.rolledBack t value) k x))
+  unfolding leavesThrough kindOf writtenAs gateOf gated reportGate behind pick _and_
+  report-rollback-recorded t k x value = joined stepWritten 8 r log (report rolledBack k x) _ _ _ unwritten-steps (λ b. refl) (λ b e. rw e)
 
   pub commit-recorded : (a c : List ℕ) →
-      Through callWritten 9 r log (sized a and sized c) (a ∷ c ∷ []) (commitLeaves r a c) (commitRecorded r log a c)
-  unfolding commitLeaves commitRecorded stepWith gateOf gated pick
+      Through callWritten 9 r log (sized a and sized c) (a ∷ c ∷ []) (leavesOf r (Lending.commit a c)) (leavesThrough r log (Lending.commit a c))
+  unfolding leavesThrough kindOf writtenAs gateOf gated pick _and_
   commit-recorded a c = joined callWritten 9 r log commit _ _ _ unwritten-calls (λ b. refl) (λ b e. rw e)
 
   pub recover-recorded : (a x : List ℕ) (n : ℕ) →
-      Through callWritten 10 r log (sized a and sized x) (a ∷ x ∷ []) (recoverLeaves r a x n) (recoverRecorded r log a x n)
-  unfolding recoverLeaves recoverRecorded stepWith gateOf gated pick
+      Through callWritten 10 r log (sized a and sized x) (a ∷ x ∷ []) (leavesOf r (Lending.recover a x n)) (leavesThrough r log (Lending.recover a x n))
+  unfolding leavesThrough kindOf writtenAs gateOf gated pick _and_
   recover-recorded a x n = joined callWritten 10 r log (recover n) _ _ _ unwritten-calls (λ b. refl) (λ b e. rw e)
 
   pub recover-retained-recorded : (a o x : List ℕ) →
-      Through callWritten 11 r log (sized a and sized o and sized x) (a ∷ o ∷ x ∷ []) (recoverRetainedLeaves r a o x)
-      (recoverRetainedRecorded r log a o x)
-  unfolding recoverRetainedLeaves recoverRetainedRecorded stepWith gateOf gated pick
+      Through callWritten 11 r log (sized a and sized o and sized x) (a ∷ o ∷ x ∷ []) (leavesOf r (Lending.recoverRetained a o x))
+      (leavesThrough r log (Lending.recoverRetained a o x))
+  unfolding leavesThrough kindOf writtenAs gateOf gated pick _and_
   recover-retained-recorded a o x = joined callWritten 11 r log recoverRetained _ _ _ unwritten-calls (λ b. refl) (λ b e. rw e)
 
   pub refresh-recorded : (a x : List ℕ) (n : ℕ) →
-      Through callWritten 12 r log (sized a and sized x) (a ∷ x ∷ []) (refreshLeaves r a x n) (refreshRecorded r log a x n)
-  unfolding refreshLeaves refreshRecorded stepWith gateOf gated pick
+      Through callWritten 12 r log (sized a and sized x) (a ∷ x ∷ []) (leavesOf r (Lending.refresh a x n)) (leavesThrough r log (Lending.refresh a x n))
+  unfolding leavesThrough kindOf writtenAs gateOf gated pick _and_
   refresh-recorded a x n = joined callWritten 12 r log (refresh n) _ _ _ unwritten-calls (λ b. refl) (λ b e. rw e)

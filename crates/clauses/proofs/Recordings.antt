@@ -1,12 +1,13 @@
 -- What the recorder does about any step: the law behind the clauses of all twelve recorded calls. Assumes nothing.
 use Prim.Native.Nat.{ℕ}
-use mathlib.Core.Path.{_≡_, refl, sym, ap, subst}
+use mathlib.Core.Path.{_≡_, refl, sym, _∙_, ap, subst}
 use mathlib.Core.Bool.{Bool, true, false, not}
 use mathlib.Core.List.{List, _∷_}
 use mathlib.Core.Logic.{_≢_}
 use borrow.Author.Tests.{not-true, not-false}
 use Rattle.choice.specs.Pick.{_and_}
 use Rattle.choice.proofs.Picks.{yes, no}
+use Rattle.choice.proofs.Tests.{both}
 use Rattle.record.specs.Answers.{Told, refused, refusalNumber, refuse}
 use Rattle.record.specs.Leaves.{Leaves, leaves, moving}
 use Rattle.record.specs.declared.Record.{Record}
@@ -15,9 +16,9 @@ use Rattle.record.specs.declared.Refusal.the-variants.{BadArea, Damaged}
 use Rattle.record.proofs.Saying.{refused-number}
 use Rattle.wholeness.specs.Whole.{whole}
 use Rattle.log.specs.Log.{sound, appended}
-use Rattle.recording.specs.Recorded.{withLog, callWritten, recorded}
-use Rattle.recording.proofs.Through.{fit, same-step}
-use Rattle.demands.specs.Calls.{Call, stepWith, step}
+use Rattle.recording.specs.Recorded.{withLog, recorded}
+use Rattle.calls.specs.Calls.{Call, stepWith, step}
+use Rattle.calls.specs.Kinds.{callWritten}
 use Rattle.demands.proofs.Unseen.{quiet}
 use Rattle.demands.proofs.Testing.{not-yes}
 use Rattle.demands.proofs.Granting.{clash}
@@ -64,6 +65,11 @@ pub refused-unwritten : (n : ℕ) → refused n ≡ true → callWritten n ≡ f
 unfolding callWritten
 refused-unwritten n e = quiet n e .done
 
+-- what joins the log has the right sizes itself
+pub fit : (fits : Bool) (log : List ℕ) → withLog fits log .sized ≡ true → fits ≡ true
+unfolding withLog
+fit fits log h = both h .0
+
 module _ (written : ℕ → Bool) (kind : ℕ) (r : Record) (log : List ℕ) (c : Call) (fits : Bool) (lent moved : List (List ℕ)) where
   -- a refusal that is not written leaves all as it was
   silent : (why : Refusal) → written (refusalNumber why) ≡ false → recorded written kind (refuse why r) r log lent moved ≡ leaves (refuse why r) (log ∷ lent)
@@ -73,12 +79,12 @@ module _ (written : ℕ → Bool) (kind : ℕ) (r : Record) (log : List ℕ) (c 
   -- a step with the log lent besides, which is refused 6 and 7 by its two tests
   pub joined : (written 6 ≡ false) × (written 7 ≡ false) → ((b : Bool) → stepWith false b r c ≡ refuse BadArea r) → ((b : Bool) → b and whole r ≡ false → stepWith true b r c ≡ refuse Damaged r) →
       Through written kind r log fits lent (moving (stepWith fits true r c) lent moved) (recorded written kind (stepWith (withLog fits log .sized) (withLog fits log .sound) r c) r log lent moved)
-  unfolding withLog step
+  unfolding withLog
   joined u p q = record {
     bad = λ z. rw (z, p (sound log)) (silent BadArea (u .0));
     damaged = λ z e. rw (z, q (sound log) e) (silent Damaged (u .1));
     ready = λ z h.
         subst (λ (t : Told). Recorded written kind r log lent (moving (stepWith fits true r c) lent moved) (recorded written kind t r log lent moved))
-        (same-step (λ a b. stepWith a b r c) fits log z h)
+        (ap (λ (a : Bool). stepWith a true r c) (fit fits log z ∙ sym z) ∙ ap (λ (b : Bool). stepWith (withLog fits log .sized) b r c) (sym h))
         (records written kind (stepWith fits true r c) r log lent moved (rw (fit fits log z) (refused-equal r c)));
   }

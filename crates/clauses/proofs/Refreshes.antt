@@ -16,8 +16,8 @@ use Rattle.record.specs.declared.Refusal.the-variants.{Pending, TooLong}
 use Rattle.wholeness.specs.Whole.{whole}
 use Rattle.settling.specs.Ending.{refreshOwn}
 use Rattle.stamping.specs.Stamping.{passes}
-use Rattle.demands.specs.Calls.{step}
-use Rattle.demands.specs.Calls.Call.{refresh, stamp, check}
+use Rattle.calls.specs.Calls.{step}
+use Rattle.calls.specs.Calls.Call.{refresh, stamp, check}
 use Rattle.demands.proofs.Own.{own}
 use Rattle.demands.proofs.Testing.{not-yes}
 use Rattle.demands.proofs.Granting.{clash}

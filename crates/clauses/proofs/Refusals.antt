@@ -16,8 +16,10 @@ use Rattle.asking.specs.Asks.{askStructureOwn, askUpdateOwn, askRollbackOwn}
 use Rattle.reporting.specs.Done.{structureDone, updateDone, rollbackDone}
 use Rattle.reporting.specs.Reports.{reported, reportStructureOwn}
 use Rattle.settling.specs.Ending.{commitOwn, recoverOwn, recoverRetainedOwn, refreshOwn}
-use Rattle.demands.specs.Calls.{Call, step}
-use Rattle.demands.specs.Calls.Call.{begin, beginStructural, askStructure, askUpdate, askRollback, reportStructure, reportUpdate, reportRollback, edit, commit, recover, recoverRetained, refresh, stamp, check}
+use Rattle.calls.specs.Calls.{Call, step}
+use Rattle.calls.specs.Calls.Work.{structure, update, rollback}
+use Rattle.calls.specs.Calls.Report.{structured, updated, rolledBack}
+use Rattle.calls.specs.Calls.Call.{begin, ask, report, edit, commit, recover, recoverRetained, refresh, stamp, check}
 use Rattle.demands.proofs.Own.{own, whole-step, damaged-step}
 use Rattle.clauses.proofs.Splitting.{performed-fine, split}
 
@@ -42,14 +44,14 @@ module _ (r : Record) where
 
   equal : (c : Call) → Equal (own r c)
   unfolding own beginOwn editOwn askStructureOwn askUpdateOwn askRollbackOwn reportStructureOwn commitOwn recoverOwn recoverRetainedOwn refreshOwn structureDone updateDone rollbackDone
-  equal (begin c o n) = one _ _ _ (λ e. refl) (one _ _ _ (λ e. refl) (one _ _ _ (λ e. refl) (one _ _ _ (λ e. refl) performed-fine)))
-  equal (beginStructural c o n) = one _ _ _ (λ e. refl) (one _ _ _ (λ e. refl) (one _ _ _ (λ e. refl) (one _ _ _ (λ e. refl) performed-fine)))
-  equal askStructure = one _ _ _ (λ e. refl) (one _ _ _ (λ e. refl) (one _ _ _ (λ e. refl) (fine 20 refl)))
-  equal askUpdate = one _ _ _ (λ e. refl) (one _ _ _ (fine 24 refl) (one _ _ _ (λ e. refl) (fine 20 refl)))
-  equal askRollback = one _ _ _ (λ e. refl) (one _ _ _ (λ e. refl) (one _ _ _ (fine 24 refl) (fine 20 refl)))
-  equal (reportStructure t x c o) = one _ _ _ (one _ _ _ (λ e. refl) (taken x _ _ (one _ _ _ (fine 24 refl) (fine 23 refl)))) (λ e. refl)
-  equal (reportUpdate t x) = one _ _ _ (taken x _ _ (one _ _ _ (fine 24 refl) (fine 23 refl))) (λ e. refl)
-  equal (reportRollback t x) = one _ _ _ (taken x _ _ (one _ _ _ (fine 24 refl) (fine 23 refl))) (λ e. refl)
+  equal (begin false c o n) = one _ _ _ (λ e. refl) (one _ _ _ (λ e. refl) (one _ _ _ (λ e. refl) (one _ _ _ (λ e. refl) performed-fine)))
+  equal (begin true c o n) = one _ _ _ (λ e. refl) (one _ _ _ (λ e. refl) (one _ _ _ (λ e. refl) (one _ _ _ (λ e. refl) performed-fine)))
+  equal (ask structure) = one _ _ _ (λ e. refl) (one _ _ _ (λ e. refl) (one _ _ _ (λ e. refl) (fine 20 refl)))
+  equal (ask update) = one _ _ _ (λ e. refl) (one _ _ _ (fine 24 refl) (one _ _ _ (λ e. refl) (fine 20 refl)))
+  equal (ask rollback) = one _ _ _ (λ e. refl) (one _ _ _ (λ e. refl) (one _ _ _ (fine 24 refl) (fine 20 refl)))
+  equal (report (structured c o) t x) = one _ _ _ (one _ _ _ (λ e. refl) (taken x _ _ (one _ _ _ (fine 24 refl) (fine 23 refl)))) (λ e. refl)
+  equal (report updated t x) = one _ _ _ (taken x _ _ (one _ _ _ (fine 24 refl) (fine 23 refl))) (λ e. refl)
+  equal (report rolledBack t x) = one _ _ _ (taken x _ _ (one _ _ _ (fine 24 refl) (fine 23 refl))) (λ e. refl)
   equal (edit c o) = one _ _ _ (λ e. refl) (one _ _ _ (λ e. refl) performed-fine)
   equal commit = one _ _ _ (λ e. refl) (one _ _ _ (λ e. refl) performed-fine)
   equal (recover n) = one _ _ _ (λ e. refl) (one _ _ _ (λ e. refl) (one _ _ _ (λ e. refl) performed-fine))

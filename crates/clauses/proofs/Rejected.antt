@@ -13,7 +13,7 @@ use Rattle.record.specs.Leaves.{Leaves}
 use Rattle.record.specs.Fields.{top}
 use Rattle.record.specs.declared.Record.{Record}
 use Rattle.wholeness.specs.Whole.{whole}
-use Rattle.begins.specs.Begins.{beginLeaves}
+use Rattle.calls.specs.Lending.{Lending, leavesOf}
 use Rattle.clauses.specs.Staging.{BeginClauses}
 use Rattle.clauses.specs.Lending.{Lends}
 use Rattle.clauses.specs.Gaps.{BeginAnswer, Rejects}
@@ -34,9 +34,9 @@ module _ (r : Record) (m : r .revision ≤ top) (w : whole r ≡ true) (c o t ne
         zero = λ e. let b = k .ok e in (b .c150, b .c151, b .c152);
       }
 
-  pub begin-rejects : Rejects r c o t new old pairs (beginLeaves false r c o t new old pairs)
+  pub begin-rejects : Rejects r c o t new old pairs (leavesOf r (Lending.begin false c o t new old pairs))
   begin-rejects = rejects (begin-lends r c o t new old pairs) (begin-clauses r (length new) (length old) (length pairs / 2) m w) (begin-answer r m w (length new) (length old) (length pairs / 2))
 
-  pub begin-structural-rejects : Rejects r c o t new old pairs (beginLeaves true r c o t new old pairs)
+  pub begin-structural-rejects : Rejects r c o t new old pairs (leavesOf r (Lending.begin true c o t new old pairs))
   begin-structural-rejects =
       rejects (begin-structural-lends r c o t new old pairs) (begin-structural-clauses r (length new) (length old) (length pairs / 2) m w) (begin-structural-answer r m w (length new) (length old) (length pairs / 2))

@@ -6,7 +6,8 @@ use native.Mathlib.Omega.{arith}
 use borrow.Author.Tests.{leb-true}
 use Rattle.choice.proofs.Tests.{tests, never}
 use Rattle.record.specs.Answers.{Told}
-use Rattle.record.specs.Live.{isLive, rollback}
+use Rattle.record.specs.Live.{isLive}
+use Rattle.record.specs.Live as Tickets
 use Rattle.record.specs.Fields.{top, spent}
 use Rattle.record.specs.declared.Record.{Record}
 use Rattle.record.specs.declared.Outcome.{Outcome}
@@ -15,8 +16,10 @@ use Rattle.wholeness.specs.Whole.{whole}
 use Rattle.asking.specs.Asks.{turned, askRollbackOwn}
 use Rattle.reporting.specs.Done.{leaving, rollbackDone}
 use Rattle.reporting.specs.Reports.{reported}
-use Rattle.demands.specs.Calls.{step}
-use Rattle.demands.specs.Calls.Call.{askRollback, reportRollback}
+use Rattle.calls.specs.Calls.{step}
+use Rattle.calls.specs.Calls.Work.{rollback}
+use Rattle.calls.specs.Calls.Report.{rolledBack}
+use Rattle.calls.specs.Calls.Call.{ask, report}
 use Rattle.demands.proofs.Own.{own}
 use Rattle.demands.proofs.Reading.{whole-facts}
 use Rattle.demands.proofs.Testing.{ranges}
@@ -37,15 +40,15 @@ module _ (r : Record) (m : r .revision ≤ top) (w : whole r ≡ true) where
   stays : {t : Told} → Framed r t × SameStaged r (t .state) → gained (t .number) ≡ true → unfinished (t .number) ≡ false → t .number ≤ 13 → Clauses t
   stays x g u n = record { framed = x .0; c103 = x .1; c104 = λ i. never (sym g ∙ i); c105 = λ i. absurd (omega arith); c106 = λ i. never (sym i ∙ u) }
 
-  pub rollback-asked : Clauses (step r askRollback)
+  pub rollback-asked : Clauses (step r (ask rollback))
   unfolding own askRollbackOwn turned unfinished gained
-  rollback-asked = let x = ranges (whole-facts r m w .stage) .turned in on-step Clauses r askRollback m w
+  rollback-asked = let x = ranges (whole-facts r m w .stage) .turned in on-step Clauses r (ask rollback) m w
       (by Clauses _ (λ e k. restores (search) (x .behind (omega tests)) (λ i. x .empty (leb-true _ _ e)) nope) (λ e₁.
       by Clauses _ (λ e k. stays (search) refl refl (omega arith)) (λ e₂.
       by Clauses _ (λ e k. restores (search) refl (λ i. omega tests) nope)
       (λ e₃ k. restores (search) refl (λ i. absurd (omega arith)) (λ i. omega tests)))))
 
-  module _ (t : ℕ) (l : isLive rollback t (r .live) ≡ true) where
+  module _ (t : ℕ) (l : isLive Tickets.rollback t (r .live) ≡ true) where
     rollback-taken : (x : Outcome) → Kept Clauses (reported x (spent r) (rollbackDone (spent r)))
     unfolding reported rollbackDone leaving unfinished
     rollback-taken O.Waiting k = let y = onRollback (whole-facts r m w) l in restores (search) (y .behind) (λ i. absurd (omega arith)) (λ i. y .some)
@@ -53,6 +56,6 @@ module _ (r : Record) (m : r .revision ≤ top) (w : whole r ≡ true) where
     rollback-taken O.Done k = let y = onRollback (whole-facts r m w) l in by Clauses _ (λ e k. restores (search) (y .behind) (λ i. omega tests) nope)
         (λ e k. restores (search) (y .behind) (λ i. absurd (omega arith)) nope) k
 
-  pub rollback-reported : (t : ℕ) (x : Outcome) → Clauses (step r (reportRollback t x))
+  pub rollback-reported : (t : ℕ) (x : Outcome) → Clauses (step r (report rolledBack t x))
   unfolding own gained unfinished
-  rollback-reported t x = on-step Clauses r (reportRollback t x) m w (by Clauses _ (λ e. rollback-taken t e x) (λ e k. stays (search) refl refl (omega arith)))
+  rollback-reported t x = on-step Clauses r (report rolledBack t x) m w (by Clauses _ (λ e. rollback-taken t e x) (λ e k. stays (search) refl refl (omega arith)))

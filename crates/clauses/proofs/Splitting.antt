@@ -14,7 +14,7 @@ use Rattle.record.specs.declared.Record.{Record}
 use Rattle.record.specs.declared.Refusal.{Refusal}
 use Rattle.record.proofs.Saying.{refused-number}
 use Rattle.wholeness.specs.Whole.{whole}
-use Rattle.demands.specs.Calls.{Call, step}
+use Rattle.calls.specs.Calls.{Call, step}
 use Rattle.demands.proofs.Own.{own, whole-step}
 use Rattle.demands.proofs.Unseen.{quiet}
 use Rattle.demands.proofs.Chain.{whole-kept}

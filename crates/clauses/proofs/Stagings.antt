@@ -17,8 +17,8 @@ use Rattle.record.specs.declared.Refusal.{Refusal}
 use Rattle.record.specs.declared.Refusal.the-variants.{Pending, Capacity, TooLong, TooMany}
 use Rattle.wholeness.specs.Whole.{whole}
 use Rattle.staging.specs.Beginning.{firstPhase, begun, beginOwn, editOwn}
-use Rattle.demands.specs.Calls.{step}
-use Rattle.demands.specs.Calls.Call.{begin, beginStructural, edit}
+use Rattle.calls.specs.Calls.{step}
+use Rattle.calls.specs.Calls.Call.{begin, edit}
 use Rattle.demands.proofs.Own.{own}
 use Rattle.demands.proofs.Classify.{first, first-structural}
 use Rattle.demands.proofs.Granting.{clash}
@@ -60,13 +60,13 @@ module _ (r : Record) (c o n : ℕ) where
         (λ e₄. starts h (record { idle = e₁; room = eqb-ne _ _ e₂; candidate = x .0; recovery = x .1; few = ltb-false _ _ e₄ })))))
 
   module _ (m : r .revision ≤ top) (w : whole r ≡ true) where
-    pub begin-clauses : BeginClauses none r c o n (step r (begin c o n))
+    pub begin-clauses : BeginClauses none r c o n (step r (begin false c o n))
     unfolding own
-    begin-clauses = on-step (Clauses none) r (begin c o n) m w (begins none false first)
+    begin-clauses = on-step (Clauses none) r (begin false c o n) m w (begins none false first)
 
-    pub begin-structural-clauses : BeginClauses remove r c o n (step r (beginStructural c o n))
+    pub begin-structural-clauses : BeginClauses remove r c o n (step r (begin true c o n))
     unfolding own
-    begin-structural-clauses = on-step (Clauses remove) r (beginStructural c o n) m w (begins remove true first-structural)
+    begin-structural-clauses = on-step (Clauses remove) r (begin true c o n) m w (begins remove true first-structural)
 
 module _ (r : Record) (c o : ℕ) where
   abbrev Edits : Told → Type 0

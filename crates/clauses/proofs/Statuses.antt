@@ -1,7 +1,7 @@
 -- `effect_status`, `initialize_effect_status` and `cancel`, clause by clause. Assumes nothing.
 use Prim.Native.Nat.{ℕ, _+_, _/_, _%_}
 use mathlib.Core.Path.{_≡_, refl, ap}
-use mathlib.Core.Bool.{Bool, true, false}
+use mathlib.Core.Bool.{true, false}
 use mathlib.Core.List.{List, [], _∷_}
 use native.Mathlib.Omega.{arith}
 use lib.Dec.{eqb}
@@ -12,13 +12,12 @@ use Rattle.choice.specs.Pick.{pick, _and_, _or_}
 use Rattle.choice.proofs.Tests.{tests, both, join}
 use Rattle.record.specs.Answers.{said}
 use Rattle.record.specs.declared.Refusal.{Refusal}
-use Rattle.status.specs.Status.{Marks, leavesMarks, linked, bytesSound, entryOf, put, withInitialized, withCancelled, marking, linkLeaves, initializeLeaves, cancelLeaves}
+use Rattle.status.specs.Status.{StatusCall, Marks, leavesMarks, linked, bytesSound, entryOf, put, withInitialized, withCancelled, allowed, next, marking, marksOf}
+use Rattle.status.specs.Status.StatusCall.{initialize}
 use Rattle.status.specs.declared.Entry.{Entry}
 use Rattle.status.specs.declared.Entry.the-variants.{At, No}
 use Rattle.demands.proofs.Testing.{right}
 use Rattle.demands.proofs.Granting.{clash}
-use Rattle.demands.specs.Marks.{allowed}
-use Rattle.demands.specs.Marks.StatusCall.{link, initialize, cancel}
 use Rattle.clauses.specs.Status.{Place, MarkClauses, Initializes, Cancels}
 use Rattle.clauses.proofs.Splitting.{refusal-real, split}
 
@@ -42,11 +41,11 @@ module _ (groups status : List ℕ) (id : ℕ) where
         sound = e;
       })) (λ e. none _ (λ x. clash _ (x .sound) e)))))))
 
-  module _ (allowed : ℕ → ℕ → Bool) (next : ℕ → ℕ) where
+  module _ (c : StatusCall) where
     abbrev Clauses : Marks → Type 0
-    Clauses = MarkClauses groups status id allowed next
+    Clauses = MarkClauses groups status id c
 
-    marks : {e : Entry} → Found e → Clauses (marking e status allowed next)
+    marks : {e : Entry} → Found e → Clauses (marking e status (allowed c) (next c))
     unfolding marking put
     marks (none why f) = record {
       c400 = (λ i. absurd (refusal-real why i), λ x. absurd (f (x .0)));
@@ -68,17 +67,8 @@ module _ (groups status : List ℕ) (id : ℕ) where
           c408 = λ i. absurd (i refl);
         })
 
-  pub link-clauses : (domain : Bool) → MarkClauses groups status id (allowed (link domain)) (λ mark. 1) (linkLeaves groups status id domain)
-  unfolding linkLeaves allowed
-  link-clauses domain = marks (allowed (link domain)) (λ mark. 1) found
-
-  pub initialize-clauses : MarkClauses groups status id (allowed initialize) withInitialized (initializeLeaves groups status id)
-  unfolding initializeLeaves allowed
-  initialize-clauses = marks (allowed initialize) withInitialized found
-
-  pub cancel-clauses : MarkClauses groups status id (allowed cancel) withCancelled (cancelLeaves groups status id)
-  unfolding cancelLeaves allowed
-  cancel-clauses = marks (allowed cancel) withCancelled found
+    pub status-clauses : Clauses (marksOf groups status id c)
+    status-clauses = marks found
 
 -- each flag is set alone
 pub initialized-alone : (mark : ℕ) → Initializes mark (withInitialized mark)
@@ -109,6 +99,6 @@ pub cancelled-sound : (group mark : ℕ) → bytesSound group mark ≡ true → 
 cancelled-sound group mark e l = let x = cancelled-alone mark in sound-after group mark _ e l (x .linked) (x .finished)
 
 -- initializing is not always refused: a live and settled group, linked
-pub initialize-possible : initializeLeaves (0 ∷ 3 ∷ []) (0 ∷ 1 ∷ []) 1 ≡ leavesMarks (said 0 []) (0 ∷ 5 ∷ [])
-unfolding initializeLeaves entryOf bytesSound marking put withInitialized pick _and_ _or_
+pub initialize-possible : marksOf (0 ∷ 3 ∷ []) (0 ∷ 1 ∷ []) 1 initialize ≡ leavesMarks (said 0 []) (0 ∷ 5 ∷ [])
+unfolding entryOf bytesSound marking put withInitialized pick _and_ _or_
 initialize-possible = refl

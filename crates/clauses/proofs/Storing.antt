@@ -19,8 +19,9 @@ use Rattle.wholeness.specs.Whole.{whole}
 use Rattle.staging.specs.Beginning.{editOwn}
 use Rattle.reporting.specs.Done.{onward, advanced, structureDone}
 use Rattle.reporting.specs.Reports.{storing, reported, reportStructureOwn}
-use Rattle.demands.specs.Calls.{step}
-use Rattle.demands.specs.Calls.Call.{reportStructure, edit}
+use Rattle.calls.specs.Calls.{step}
+use Rattle.calls.specs.Calls.Report.{structured}
+use Rattle.calls.specs.Calls.Call.{report, edit}
 use Rattle.demands.proofs.Own.{own}
 use Rattle.demands.proofs.Granting.{clash}
 use Rattle.clauses.specs.Keeping.{Stores}
@@ -57,7 +58,7 @@ module _ (r : Record) (m : r .revision ≤ top) (w : whole r ≡ true) where
       let on = onward-stores (successor (r .phase .number)) (stores c o {s = spent (storing c o r)} e (refl, refl)) in
       by (Clauses c o) _ (λ d k i. on) (λ d k i. on)
 
-  pub report-stores : (t : ℕ) (x : Outcome) (c o : ℕ) → Clauses c o (step r (reportStructure t x c o))
+  pub report-stores : (t : ℕ) (x : Outcome) (c o : ℕ) → Clauses c o (step r (report (structured c o) t x))
   unfolding own reportStructureOwn
-  report-stores t x c o = on-step (Clauses c o) r (reportStructure t x c o) m w
+  report-stores t x c o = on-step (Clauses c o) r (report (structured c o) t x) m w
       (by (Clauses c o) _ (λ e. by (Clauses c o) _ (λ d k. refuses c o r TooLong) (λ d. taken x c o d)) (λ e k. refuses c o r Stale))

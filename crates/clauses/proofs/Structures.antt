@@ -8,7 +8,8 @@ use Rattle.choice.proofs.Tests.{test}
 use Rattle.phases.specs.Phases.{hasSuccessor, boundary}
 use Rattle.phases.specs.declared.Phase.{Phase}
 use Rattle.record.specs.Answers.{Told}
-use Rattle.record.specs.Live.{isLive, structure}
+use Rattle.record.specs.Live.{isLive}
+use Rattle.record.specs.Live as Tickets
 use Rattle.record.specs.Fields.{top, spent}
 use Rattle.record.specs.declared.Record.{Record}
 use Rattle.record.specs.declared.Outcome.{Outcome}
@@ -17,8 +18,10 @@ use Rattle.wholeness.specs.Whole.{whole}
 use Rattle.asking.specs.Asks.{askStructureOwn}
 use Rattle.reporting.specs.Done.{structureDone}
 use Rattle.reporting.specs.Reports.{storing, reported, reportStructureOwn}
-use Rattle.demands.specs.Calls.{step}
-use Rattle.demands.specs.Calls.Call.{askStructure, reportStructure}
+use Rattle.calls.specs.Calls.{step}
+use Rattle.calls.specs.Calls.Work.{structure}
+use Rattle.calls.specs.Calls.Report.{structured}
+use Rattle.calls.specs.Calls.Call.{ask, report}
 use Rattle.demands.proofs.Own.{own}
 use Rattle.demands.proofs.Reading.{whole-facts, apart-of}
 use Rattle.demands.proofs.Testing.{ranges}
@@ -65,15 +68,15 @@ module _ (r : Record) (m : r .revision ≤ top) (w : whole r ≡ true) where
         c187 = λ i. rw p (b i);
       }
 
-  pub structure-asked : Clauses (step r askStructure)
+  pub structure-asked : Clauses (step r (ask structure))
   unfolding own askStructureOwn
-  structure-asked = on-step Clauses r askStructure m w
+  structure-asked = on-step Clauses r (ask structure) m w
       (by Clauses _ (λ e k. stands (search) (search) (no-successor _ e) (λ i. refl) (λ i. absurd (omega arith))) (λ e₁.
       by Clauses _ (λ e k. stands (search) (search) (λ i j. absurd (omega arith)) (λ i. refl) (λ i. at-boundary _ e)) (λ e₂.
       by Clauses _ (λ e k. stands (search) (search) (λ i j. absurd (omega arith)) (λ i. refl) (λ i. absurd (omega arith)))
       (λ e₃ k. stands (search) (search) (λ i j. absurd (omega arith)) (λ i. clash _ (has-one _ (ranges (whole-facts r m w .stage) .bound) e₁ e₂) i) (λ i. absurd (omega arith))))))
 
-  module _ (t : ℕ) (l : isLive structure t (r .live) ≡ true) (c o : ℕ) where
+  module _ (t : ℕ) (l : isLive Tickets.structure t (r .live) ≡ true) (c o : ℕ) where
     -- what a Done report answers, and the record that it leaves
     goes : {t : Told} → Advances r (t .state) → whole (t .state) ≡ true → t .number ≢ 4 → unfinished (t .number) ≡ false → (t .number ≡ 24 → boundary (t .state .phase .number) ≡ true) → Clauses t
     goes x k n u b = record {
@@ -95,8 +98,8 @@ module _ (r : Record) (m : r .revision ≤ top) (w : whole r ≡ true) where
     structure-taken O.Done k =
         by Clauses _ (λ e k. goes (onwards r m w t l c o) k (λ i. absurd (omega arith)) refl (λ i. e)) (λ e k. goes (onwards r m w t l c o) k (λ i. absurd (omega arith)) refl (λ i. absurd (omega arith))) k
 
-  pub structure-reported : (t : ℕ) (x : Outcome) (c o : ℕ) → Clauses (step r (reportStructure t x c o))
+  pub structure-reported : (t : ℕ) (x : Outcome) (c o : ℕ) → Clauses (step r (report (structured c o) t x))
   unfolding own reportStructureOwn
-  structure-reported t x c o = on-step Clauses r (reportStructure t x c o) m w
+  structure-reported t x c o = on-step Clauses r (report (structured c o) t x) m w
       (by Clauses _ (λ e. by Clauses _ (λ d k. stands (search) (search) (λ i j. absurd (omega arith)) (λ i. refl) (λ i. absurd (omega arith))) (λ d. structure-taken t e c o x))
       (λ e k. stands (search) (search) (λ i j. absurd (omega arith)) (λ i. refl) (λ i. absurd (omega arith))))

@@ -12,8 +12,8 @@ use Rattle.record.specs.Fields.{top}
 use Rattle.record.specs.declared.Record.{Record}
 use Rattle.wholeness.specs.Whole.{complete}
 use Rattle.staging.specs.Opening.{openStep}
-use Rattle.demands.specs.Calls.{step}
-use Rattle.demands.specs.Calls.Call.{commit}
+use Rattle.calls.specs.Calls.{step}
+use Rattle.calls.specs.Calls.Call.{commit}
 use Rattle.demands.specs.Sending.{Sent, afterSent, heardSent}
 use Rattle.demands.specs.Watching.{Item, Watch, watch, unwatched}
 use Rattle.demands.specs.Plans.{planAt, firsts}

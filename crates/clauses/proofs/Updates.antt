@@ -9,7 +9,8 @@ use borrow.Author.Tests.{ne-eqb, not-true, not-false}
 use Rattle.choice.specs.Pick.{_or_}
 use Rattle.choice.proofs.Tests.{never, either, neither, join, no-left, no-right}
 use Rattle.record.specs.Answers.{Told}
-use Rattle.record.specs.Live.{isLive, update}
+use Rattle.record.specs.Live.{isLive}
+use Rattle.record.specs.Live as Tickets
 use Rattle.record.specs.Fields.{top, spent, adopting}
 use Rattle.record.specs.declared.Record.{Record}
 use Rattle.record.specs.declared.Outcome.{Outcome}
@@ -18,8 +19,10 @@ use Rattle.wholeness.specs.Whole.{whole, complete}
 use Rattle.asking.specs.Asks.{askUpdateOwn}
 use Rattle.reporting.specs.Done.{updateDone}
 use Rattle.reporting.specs.Reports.{reported}
-use Rattle.demands.specs.Calls.{step}
-use Rattle.demands.specs.Calls.Call.{askUpdate, reportUpdate}
+use Rattle.calls.specs.Calls.{step}
+use Rattle.calls.specs.Calls.Work.{update}
+use Rattle.calls.specs.Calls.Report.{updated}
+use Rattle.calls.specs.Calls.Call.{ask, report}
 use Rattle.demands.proofs.Own.{own}
 use Rattle.demands.proofs.Facts.{tests}
 use Rattle.demands.proofs.Reading.{whole-facts}
@@ -44,9 +47,9 @@ module _ (r : Record) (m : r .revision ≤ top) (w : whole r ≡ true) where
   placed h x f g =
       record { c76 = astray _ h; c77 = λ y z i. astray _ h y z; framed = x .0; c92 = x .1; c93 = x .2; c95 = f; c96 = λ i. g }
 
-  pub update-asked : Clauses (step r askUpdate)
+  pub update-asked : Clauses (step r (ask update))
   unfolding own askUpdateOwn adopting complete unfinished
-  update-asked = on-step Clauses r askUpdate m w
+  update-asked = on-step Clauses r (ask update) m w
       (by Clauses _ (λ e k. record {
         c76 = λ y z. refl;
         c77 = λ y z g. refl;
@@ -60,7 +63,7 @@ module _ (r : Record) (m : r .revision ≤ top) (w : whole r ≡ true) where
       by Clauses _ (λ e k. placed h (search) (λ i. absurd (omega arith)) nope)
       (λ e₃ k. placed h (search) (λ i. absurd (omega arith)) (λ i. no-right _ e₂)))))
 
-  module _ (t : ℕ) (l : isLive update t (r .live) ≡ true) where
+  module _ (t : ℕ) (l : isLive Tickets.update t (r .live) ≡ true) where
     in-place : eqb (r .phase .number) 0 or eqb (r .phase .number) 5 ≡ true
     in-place = updates-test _ (onUpdate (whole-facts r m w) l .place)
 
@@ -74,9 +77,9 @@ module _ (r : Record) (m : r .revision ≤ top) (w : whole r ≡ true) where
     update-taken O.Done k = by Clauses _ (λ e k. placed in-place (search) (λ i. join (ap not (onUpdate (whole-facts r m w) l .ahead)) e) nope)
         (λ e k. placed in-place (search) (λ i. absurd (omega arith)) nope) k
 
-  pub update-reported : (t : ℕ) (x : Outcome) → Clauses (step r (reportUpdate t x))
+  pub update-reported : (t : ℕ) (x : Outcome) → Clauses (step r (report updated t x))
   unfolding own gained unfinished
-  update-reported t x = on-step Clauses r (reportUpdate t x) m w (by Clauses _ (λ e. update-taken t e x) (λ e k. record {
+  update-reported t x = on-step Clauses r (report updated t x) m w (by Clauses _ (λ e. update-taken t e x) (λ e k. record {
     c76 = λ y z. refl;
     c77 = λ y z. never;
     framed = search;

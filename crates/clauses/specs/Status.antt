@@ -1,11 +1,11 @@
--- The clauses of `effect_status`, `initialize_effect_status` and `cancel`: v is what link, initialize or cancel leaves. Assumes nothing.
+-- The clauses of `effect_status`, `initialize_effect_status` and `cancel`: v is what the call answers and leaves. Assumes nothing.
 use Prim.Native.Nat.{ℕ, _/_, _%_, _≤_, _<_}
 use mathlib.Core.Path.{_≡_}
-use mathlib.Core.Bool.{Bool, true}
+use mathlib.Core.Bool.{true}
 use mathlib.Core.List.{List}
 use mathlib.Core.Logic.{_≢_, _↔_}
 use lib.ListN.{length, getD}
-use Rattle.status.specs.Status.{Marks, linked, bytesSound}
+use Rattle.status.specs.Status.{StatusCall, Marks, allowed, next, bytesSound}
 
 -- where 6, 7 and the id's 13 are not given
 pub record Place (groups status : List ℕ) (id : ℕ) : Type 0 where
@@ -22,12 +22,12 @@ pub record Sets (status : List ℕ) (id mark : ℕ) (after : List ℕ) : Type 0 
   pub others : (j : ℕ) → j ≢ id → getD after j 0 ≡ getD status j 0
   pub size : length after ≡ length status
 
--- a call that is allowed by the group byte and the status byte, and makes the status byte the next one
-pub record MarkClauses (groups status : List ℕ) (id : ℕ) (allowed : ℕ → ℕ → Bool) (next : ℕ → ℕ) (v : Marks) : Type 0 where
+-- each call is allowed by the group byte and the status byte, and makes the status byte the next one
+pub record MarkClauses (groups status : List ℕ) (id : ℕ) (c : StatusCall) (v : Marks) : Type 0 where
   -- some exactly if .. (C400, C410)
-  pub c400 : (v .said .number ≡ 0) ↔ (Place groups status id × (allowed (getD groups id 0) (getD status id 0) ≡ true))
+  pub c400 : (v .said .number ≡ 0) ↔ (Place groups status id × (allowed c (getD groups id 0) (getD status id 0) ≡ true))
   -- some implies the new byte, and every other as it was (C402, C405 to C407, C412, C388)
-  pub c407 : v .said .number ≡ 0 → Sets status id (next (getD status id 0)) (v .status)
+  pub c407 : v .said .number ≡ 0 → Sets status id (next c (getD status id 0)) (v .status)
   -- none implies `new == old`
   pub c408 : v .said .number ≢ 0 → v .status ≡ status
 

@@ -9,8 +9,9 @@ use native.Mathlib.Omega.{arith}
 use borrow.Author.Tests.{eq-eqb, ne-eqb, lt-ltb, ltb-true, not-false}
 use Rattle.choice.proofs.Tests.{eqb-ne, join}
 use Rattle.record.specs.declared.Record.{Record}
-use Rattle.demands.specs.Calls.{Call}
-use Rattle.demands.specs.Calls.Call.{askStructure, askUpdate, askRollback}
+use Rattle.calls.specs.Calls.{Call}
+use Rattle.calls.specs.Calls.Work.{structure, update, rollback}
+use Rattle.calls.specs.Calls.Call.{ask}
 use Rattle.demands.specs.Watching.{Watch}
 use Rattle.demands.specs.Plans.{planned, plannedBack, due}
 use Rattle.demands.specs.Promises.{Asking}
@@ -30,19 +31,19 @@ record Some (r : Record) : Type 0 where
 
 structure-due : (r : Record) → Whole r → Apart (r .phase .number) → Some r
 unfolding due
-structure-due r w y = record { call = askStructure; is-due = successor-test _ (ranges (w .stage) .bound) y }
+structure-due r w y = record { call = (ask structure); is-due = successor-test _ (ranges (w .stage) .bound) y }
 
 rollback-due : (r : Record) → r .restoring ≡ true → 0 < r .entries → Some r
 unfolding due
-rollback-due r e h = record { call = askRollback; is-due = join e (lt-ltb _ _ h) }
+rollback-due r e h = record { call = (ask rollback); is-due = join e (lt-ltb _ _ h) }
 
 update-due : (r : Record) → r .restoring ≡ false → r .phase .number ≡ 0 → r .applied < r .entries → Some r
 unfolding due
-update-due r e z h = record { call = askUpdate; is-due = right _ (join (join (eq-eqb _ _ z) (not-yes _ e)) (lt-ltb _ _ h)) }
+update-due r e z h = record { call = (ask update); is-due = right _ (join (join (eq-eqb _ _ z) (not-yes _ e)) (lt-ltb _ _ h)) }
 
 batch-due : (r : Record) → r .phase .number ≡ 5 → Some r
 unfolding due
-batch-due r e = record { call = askUpdate; is-due = left _ (eq-eqb _ _ e) }
+batch-due r e = record { call = (ask update); is-due = left _ (eq-eqb _ _ e) }
 
 abbrev Ready : Record → Bool
 Ready r = (eqb (r .phase .number) 0 || eqb (r .phase .number) 7) && (not (r .restoring) && eqb (r .applied) (r .entries))

@@ -15,9 +15,9 @@ use Rattle.reporting.specs.Done.{onward, advanced, structureDone, updateDone, l
 use Rattle.reporting.specs.Reports.{behind, reportGate, reported, reportStructureOwn}
 use Rattle.settling.specs.Ending.{settled, commitOwn, unrestored, recoverOwn}
 use Rattle.stamping.specs.Stamping.{stampStep, passes, checkStep}
-use Rattle.demands.specs.Calls.{stepWith, step}
+use Rattle.calls.specs.Calls.{stepWith, step}
 use Rattle.demands.specs.Cases.{cases, holdAll}
 
 pub cases-hold : holdAll cases ≡ true
-unfolding cases step stepWith pick _and_ _or_ _implies_ hasSuccessor successor boundary long isLive adopting lengthsFit countsFit stagedFits forwardFits backFits restoringFits liveFits whole complete gateOf gated opening openStep firstPhase begun beginOwn askStructureOwn askUpdateOwn askRollbackOwn turned onward advanced structureDone updateDone least leaving rollbackDone behind reportGate reported reportStructureOwn settled commitOwn unrestored recoverOwn stampStep passes checkStep
+unfolding cases pick _and_ _or_ _implies_ hasSuccessor successor boundary long isLive adopting lengthsFit countsFit stagedFits forwardFits backFits restoringFits liveFits whole complete gateOf gated opening openStep firstPhase begun beginOwn askStructureOwn askUpdateOwn askRollbackOwn turned onward advanced structureDone updateDone least leaving rollbackDone behind reportGate reported reportStructureOwn settled commitOwn unrestored recoverOwn stampStep passes checkStep
 cases-hold = refl

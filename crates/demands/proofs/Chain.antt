@@ -7,7 +7,7 @@ use Rattle.record.specs.Answers.{Told}
 use Rattle.record.specs.Fields.{top}
 use Rattle.record.specs.declared.Record.{Record}
 use Rattle.wholeness.specs.Whole.{whole}
-use Rattle.demands.specs.Calls.{Call, step}
+use Rattle.calls.specs.Calls.{Call, step}
 use Rattle.demands.specs.Sending.{Sent, answered, afterSent, heardSent}
 use Rattle.demands.specs.Watching.{Watch, watch}
 use Rattle.demands.proofs.Own.{own, whole-step}

@@ -11,7 +11,8 @@ use Rattle.phases.specs.Phases.{none, remove}
 use Rattle.areas.specs.Areas.{long, areaSize}
 use Rattle.record.specs.Answers.{Told, refused}
 use Rattle.record.specs.Fields.{spent}
-use Rattle.record.specs.Live.{isLive, structure, update, rollback}
+use Rattle.record.specs.Live.{isLive}
+use Rattle.record.specs.Live as Tickets
 use Rattle.record.specs.declared.Record.{Record}
 use Rattle.record.specs.declared.Outcome.{Outcome}
 use Rattle.record.specs.declared.Outcome.the-variants as O
@@ -24,8 +25,10 @@ use Rattle.asking.specs.Asks.{askStructureOwn, askUpdateOwn, askRollbackOwn}
 use Rattle.reporting.specs.Done.{structureDone, updateDone, rollbackDone}
 use Rattle.reporting.specs.Reports.{reported, storing, reportStructureOwn}
 use Rattle.settling.specs.Ending.{commitOwn, recoverOwn, recoverRetainedOwn, refreshOwn}
-use Rattle.demands.specs.Calls.{Call, step}
-use Rattle.demands.specs.Calls.Call.{begin, beginStructural, askStructure, askUpdate, askRollback, reportStructure, reportUpdate, reportRollback, edit, commit, recover, recoverRetained, refresh, stamp, check}
+use Rattle.calls.specs.Calls.{Call, step}
+use Rattle.calls.specs.Calls.Work.{structure, update, rollback}
+use Rattle.calls.specs.Calls.Report.{structured, updated, rolledBack}
+use Rattle.calls.specs.Calls.Call.{begin, ask, report, edit, commit, recover, recoverRetained, refresh, stamp, check}
 use Rattle.demands.specs.Watching.{sees}
 use Rattle.demands.specs.Watching as Watching
 use Rattle.demands.proofs.Own.{own, whole-step, damaged-step}
@@ -63,26 +66,26 @@ pub first-structural : firstPhase true ≡ remove
 unfolding firstPhase pick
 first-structural = refl
 
-finished-unseen : Unseen askStructure 24 []
+finished-unseen : Unseen (ask structure) 24 []
 unfolding sees pick
 finished-unseen w = refl
 
 -- a report whose ticket is the live one: Waiting, Failed, or what Done does
 module _ {r : Record} (t : ℕ) where
-  structure-reported : (x : Outcome) (c o : ℕ) → isLive structure t (r .live) ≡ true → c ≤ areaSize → o ≤ areaSize →
-      Leaf r (reportStructure t x c o) (reported x (spent (storing c o r)) (structureDone (spent (storing c o r))))
+  structure-reported : (x : Outcome) (c o : ℕ) → isLive Tickets.structure t (r .live) ≡ true → c ≤ areaSize → o ≤ areaSize →
+      Leaf r (report (structured c o) t x) (reported x (spent (storing c o r)) (structureDone (spent (storing c o r))))
   unfolding reported structureDone sees Watching.reported
   structure-reported O.Waiting c o e p q = waitedStoring (λ w. refl) p q
   structure-reported (O.Failed code) c o e p q = waitedStoring (λ w. refl) p q
   structure-reported O.Done c o e p q = split _ (λ h. went finished-took e p q) (λ h. went more-took e p q)
 
-  update-reported : (x : Outcome) → isLive update t (r .live) ≡ true → Leaf r (reportUpdate t x) (reported x (spent r) (updateDone (spent r)))
+  update-reported : (x : Outcome) → isLive Tickets.update t (r .live) ≡ true → Leaf r (report updated t x) (reported x (spent r) (updateDone (spent r)))
   unfolding reported updateDone sees Watching.reported
   update-reported O.Waiting e = waited (λ w. refl)
   update-reported (O.Failed code) e = waited (λ w. refl)
   update-reported O.Done e = split _ (λ h. updateLast e (eqb-true _ _ h)) (λ h. updateMore e (eqb-ne _ _ h))
 
-  rollback-reported : (x : Outcome) → isLive rollback t (r .live) ≡ true → Leaf r (reportRollback t x) (reported x (spent r) (rollbackDone (spent r)))
+  rollback-reported : (x : Outcome) → isLive Tickets.rollback t (r .live) ≡ true → Leaf r (report rolledBack t x) (reported x (spent r) (rollbackDone (spent r)))
   unfolding reported rollbackDone sees Watching.reported
   rollback-reported O.Waiting e = waited (λ w. refl)
   rollback-reported (O.Failed code) e = waited (λ w. refl)
@@ -101,28 +104,28 @@ updates-of p e = either e (λ h. Updates.flat (eqb-true _ _ h)) (λ h. Updates.b
 
 classify : (r : Record) (c : Call) → Leaf r c (own r c)
 unfolding own beginOwn editOwn askStructureOwn askUpdateOwn askRollbackOwn reportStructureOwn commitOwn recoverOwn recoverRetainedOwn refreshOwn structureDone updateDone rollbackDone sees refused _and_
-classify r (begin c o n) =
+classify r (begin false c o n) =
     split _ (λ e. refuses refl) (λ e₁. split _ (λ e. refuses refl) (λ e₂. split _ (λ e. refuses refl) (λ e₃. split _ (λ e. refuses refl) (λ e₄.
     let s = neither e₃ in
     began first e₁ (eqb-ne _ _ e₂) (short _ (s .0)) (short _ (s .1)) (ltb-false _ _ e₄)))))
-classify r (beginStructural c o n) =
+classify r (begin true c o n) =
     split _ (λ e. refuses refl) (λ e₁. split _ (λ e. refuses refl) (λ e₂. split _ (λ e. refuses refl) (λ e₃. split _ (λ e. refuses refl) (λ e₄.
     let s = neither e₃ in
     beganStructural first-structural e₁ (eqb-ne _ _ e₂) (short _ (s .0)) (short _ (s .1)) (ltb-false _ _ e₄)))))
-classify r askStructure =
+classify r (ask structure) =
     split _ (λ e. refuses refl) (λ e₁. split _ (λ e. kept finished-unseen) (λ e₂. split _ (λ e. refuses refl) (λ e₃. structureAsked (open-tests _ e₁ e₂))))
-classify r askUpdate =
+classify r (ask update) =
     split _ (λ e. refuses refl) (λ e₁.
     let s = neither e₁ in
     let u = updates-of (r .phase .number) (not-false _ (s .0)) in
     split _ (λ e. updateEnded u (s .1) (eqb-true _ _ e)) (λ e₂. split _ (λ e. refuses refl) (λ e₃. updateAsked u (s .1) (eqb-ne _ _ e₂))))
-classify r askRollback =
+classify r (ask rollback) =
     split _ (λ e. rollbackEnded (leb-true _ _ e)) (λ e₁. split _ (λ e. refuses refl) (λ e₂.
     split _ (λ e. turnedEmpty (leb-false _ _ e₁) (eqb-true _ _ e)) (λ e₃. turnedAsked (leb-false _ _ e₁) (eqb-ne _ _ e₃))))
-classify r (reportStructure t x c o) =
+classify r (report (structured c o) t x) =
     split _ (λ e. split _ (λ d. refuses refl) (λ d. let s = neither d in structure-reported t x c o e (short _ (s .0)) (short _ (s .1)))) (λ e. refuses refl)
-classify r (reportUpdate t x) = split _ (λ e. update-reported t x e) (λ e. refuses refl)
-classify r (reportRollback t x) = split _ (λ e. rollback-reported t x e) (λ e. refuses refl)
+classify r (report updated t x) = split _ (λ e. update-reported t x e) (λ e. refuses refl)
+classify r (report rolledBack t x) = split _ (λ e. rollback-reported t x e) (λ e. refuses refl)
 classify r (edit c o) =
     split _ (λ e. refuses refl) (λ e₁. split _ (λ e. refuses refl) (λ e₂. let s = neither e₂ in edited (short _ (s .0)) (short _ (s .1))))
 classify r commit = split _ (λ e. refuses refl) (λ e₁. split _ (λ e. refuses refl) (λ e₂. committed (not-false _ e₁)))

@@ -11,11 +11,14 @@ use Rattle.record.specs.Answers.{Said, refused}
 use Rattle.record.specs.declared.Record.{Record}
 use Rattle.wholeness.specs.Whole.{whole}
 use Rattle.stamping.specs.Stamping.{passes, checkStep}
-use Rattle.demands.specs.Calls.{stepWith}
-use Rattle.demands.specs.Calls.Call.{begin, beginStructural, askStructure, askUpdate, askRollback, reportStructure, reportUpdate, reportRollback, edit, commit, recover, recoverRetained, refresh, stamp, check}
+use Rattle.calls.specs.Calls.{stepWith}
+use Rattle.calls.specs.Calls.Work.{structure, update, rollback}
+use Rattle.calls.specs.Calls.Report.{structured, updated, rolledBack}
+use Rattle.calls.specs.Calls.Call.{begin, ask, report, edit, commit, recover, recoverRetained, refresh, stamp, check}
 use Rattle.demands.specs.Rows.{given, among, distinct, count}
-use Rattle.demands.specs.Refusals.{AnyCall, stepOf, returned, rows, numbersOf}
-use Rattle.demands.specs.Refusals.AnyCall.{opens, calls}
+use Rattle.calls.specs.Calls.{AnyCall, stepOf}
+use Rattle.demands.specs.Refusals.{returned, rows, numbersOf}
+use Rattle.calls.specs.Calls.AnyCall.{opens, calls}
 use Rattle.demands.proofs.OneRow.{Listed, one-given, one-listed}
 use Rattle.demands.proofs.Refusals.{fits-rows}
 
@@ -29,14 +32,13 @@ module _ (sized sound : Bool) (r : Record) where
   pub all-listed : (c : AnyCall) → Listed (rows sized sound r c) (numbersOf c)
   unfolding rows numbersOf distinct among _and_ _or_
   all-listed (opens v s n) = (refl, refl)
-  all-listed (calls (begin c o n)) = (refl, refl)
-  all-listed (calls (beginStructural c o n)) = (refl, refl)
-  all-listed (calls askStructure) = (refl, refl)
-  all-listed (calls askUpdate) = (refl, refl)
-  all-listed (calls askRollback) = (refl, refl)
-  all-listed (calls (reportStructure t x c o)) = (refl, refl)
-  all-listed (calls (reportUpdate t x)) = (refl, refl)
-  all-listed (calls (reportRollback t x)) = (refl, refl)
+  all-listed (calls (begin structural c o n)) = (refl, refl)
+  all-listed (calls (ask structure)) = (refl, refl)
+  all-listed (calls (ask update)) = (refl, refl)
+  all-listed (calls (ask rollback)) = (refl, refl)
+  all-listed (calls (report (structured c o) t x)) = (refl, refl)
+  all-listed (calls (report updated t x)) = (refl, refl)
+  all-listed (calls (report rolledBack t x)) = (refl, refl)
   all-listed (calls (edit c o)) = (refl, refl)
   all-listed (calls commit) = (refl, refl)
   all-listed (calls (recover n)) = (refl, refl)
@@ -64,5 +66,5 @@ module _ (sized sound : Bool) (r : Record) where
 
   -- "checking a stamp answers yes, no or 7": of a whole record yes, 1, exactly where the stamp passes, and else no, 0
   pub check-says : (domain d v : ℕ) → whole r ≡ true → stepWith sized sound r (check domain d v) .values ≡ pick (passes r domain d v) (1 ∷ []) (0 ∷ [])
-  unfolding stepWith checkStep
+  unfolding checkStep
   check-says domain d v h = says-second (not (whole r)) (passes r domain d v) _ _ _ (ap not h)

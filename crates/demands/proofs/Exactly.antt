@@ -16,8 +16,8 @@ use Rattle.record.specs.declared.Answer.the-variants.{Done}
 use Rattle.record.specs.declared.Refusal.the-variants.{Idle, NotReady}
 use Rattle.wholeness.specs.Whole.{complete}
 use Rattle.settling.specs.Ending.{settled, commitOwn, unrestored, recoverRetainedOwn}
-use Rattle.demands.specs.Calls.{step}
-use Rattle.demands.specs.Calls.Call.{commit, recoverRetained}
+use Rattle.calls.specs.Calls.{step}
+use Rattle.calls.specs.Calls.Call.{commit, recoverRetained}
 use Rattle.demands.specs.Watching.{Item, Watch}
 use Rattle.demands.specs.Plans.{planned, plannedBack, firsts}
 use Rattle.demands.specs.Promises.{Forward, Backward}

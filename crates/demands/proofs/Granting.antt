@@ -13,8 +13,9 @@ use Rattle.record.specs.Fields.{top}
 use Rattle.record.specs.declared.Record.{Record}
 use Rattle.wholeness.specs.Whole.{whole}
 use Rattle.asking.specs.Asks.{askStructureOwn, askUpdateOwn, askRollbackOwn}
-use Rattle.demands.specs.Calls.{Call, step}
-use Rattle.demands.specs.Calls.Call.{begin, beginStructural, askStructure, askUpdate, askRollback, reportStructure, reportUpdate, reportRollback, edit, commit, recover, recoverRetained, refresh, stamp, check}
+use Rattle.calls.specs.Calls.{Call, step}
+use Rattle.calls.specs.Calls.Work.{structure, update, rollback}
+use Rattle.calls.specs.Calls.Call.{begin, ask, report, edit, commit, recover, recoverRetained, refresh, stamp, check}
 use Rattle.demands.specs.Chains.{hears}
 use Rattle.demands.specs.Watching.{granted}
 use Rattle.demands.specs.Plans.{due}
@@ -46,7 +47,7 @@ ticket : (t i : ℕ) (r : Record) → Grants (record { number = 20; values = t �
 unfolding _or_
 ticket t i r = record { sure = refl }
 
-pub due-update : {r : Record} → Whole r → due r askUpdate ≡ true → Updates (r .phase .number) × (r .restoring ≡ false)
+pub due-update : {r : Record} → Whole r → due r (ask update) ≡ true → Updates (r .phase .number) × (r .restoring ≡ false)
 unfolding due
 due-update w d =
     either d (λ e. (Updates.batch (eqb-true _ _ e), ranges (w .stage) .turned .ahead (omega tests) (omega tests)))
@@ -77,14 +78,11 @@ module _ {r : Record} (w : Whole r) (s : r .serial ≢ top) where
 
   grants-due : (c : Call) → due r c ≡ true → Grants (own r c)
   unfolding own due
-  grants-due askStructure d = grants-structure (apart-of _ d)
-  grants-due askUpdate d = let x = due-update w d in grants-update (x .0) (x .1)
-  grants-due askRollback d = grants-rollback
-  grants-due (begin c o n) d = never (sym d)
-  grants-due (beginStructural c o n) d = never (sym d)
-  grants-due (reportStructure t x c o) d = never (sym d)
-  grants-due (reportUpdate t x) d = never (sym d)
-  grants-due (reportRollback t x) d = never (sym d)
+  grants-due (ask structure) d = grants-structure (apart-of _ d)
+  grants-due (ask update) d = let x = due-update w d in grants-update (x .0) (x .1)
+  grants-due (ask rollback) d = grants-rollback
+  grants-due (begin structural c o n) d = never (sym d)
+  grants-due (report k t x) d = never (sym d)
   grants-due (edit c o) d = never (sym d)
   grants-due commit d = never (sym d)
   grants-due (recover n) d = never (sym d)

@@ -10,7 +10,8 @@ use Rattle.phases.specs.Phases.{none, remove, undo, recoverRemove}
 use Rattle.areas.specs.Areas.{areaSize}
 use Rattle.batch.specs.Batch.{limit}
 use Rattle.record.specs.Answers.{Told, answer}
-use Rattle.record.specs.Live.{isLive, structure, update, rollback}
+use Rattle.record.specs.Live.{isLive}
+use Rattle.record.specs.Live as Tickets
 use Rattle.record.specs.Fields.{top, withLengths, spent, adopting}
 use Rattle.record.specs.declared.Record.{Record}
 use Rattle.record.specs.declared.Live.the-variants.{Structure, Update, Rollback}
@@ -22,8 +23,10 @@ use Rattle.asking.specs.Asks.{issue, started, turned}
 use Rattle.reporting.specs.Done.{advanced, raised, lowered, leaving}
 use Rattle.reporting.specs.Reports.{storing}
 use Rattle.settling.specs.Ending.{settled, recoveredTo}
-use Rattle.demands.specs.Calls.{Call}
-use Rattle.demands.specs.Calls.Call.{begin, beginStructural, askStructure, askUpdate, askRollback, reportStructure, reportUpdate, reportRollback, edit, commit, recover, recoverRetained, refresh}
+use Rattle.calls.specs.Calls.{Call}
+use Rattle.calls.specs.Calls.Work.{structure, update, rollback}
+use Rattle.calls.specs.Calls.Report.{structured, updated, rolledBack}
+use Rattle.calls.specs.Calls.Call.{begin, ask, report, edit, commit, recover, recoverRetained, refresh}
 use Rattle.demands.proofs.Unseen.{Unseen, tell}
 
 -- phases 0, 5 and 8, and 7 and 13, are none of them
@@ -40,21 +43,21 @@ pub data Updates (p : ℕ) : Type 0 where
 
 pub data Leaf (r : Record) : Call → Told → Type 0 where
   kept : {c : Call} {n : ℕ} {vs : List ℕ} → Unseen c n vs → Leaf r c (tell n vs r)
-  began : {c o n p : ℕ} → p ≡ none → r .staged ≡ false → r .revision ≢ top → c ≤ areaSize → o ≤ areaSize → n ≤ limit → Leaf r (begin c o n) (answer (Done Nothing) (begun p c o n r))
-  beganStructural : {c o n p : ℕ} → p ≡ remove → r .staged ≡ false → r .revision ≢ top → c ≤ areaSize → o ≤ areaSize → n ≤ limit → Leaf r (beginStructural c o n) (answer (Done Nothing) (begun p c o n r))
-  structureAsked : Apart (r .phase .number) → Leaf r askStructure (issue Structure (r .phase .number) r)
-  updateEnded : Updates (r .phase .number) → r .restoring ≡ false → r .applied ≡ r .entries → Leaf r askUpdate (answer Finished (adopting r))
-  updateAsked : Updates (r .phase .number) → r .restoring ≡ false → r .applied ≢ r .entries → Leaf r askUpdate (issue Update (r .applied) (started r))
-  rollbackEnded : recoverRemove ≤ r .phase .number → Leaf r askRollback (answer Finished r)
-  turnedEmpty : r .phase .number < recoverRemove → r .attempted ≡ 0 → Leaf r askRollback (answer Finished (spent (turned recoverRemove r)))
-  turnedAsked : r .phase .number < recoverRemove → r .attempted ≢ 0 → Leaf r askRollback (issue Rollback (r .attempted - 1) (turned undo r))
+  began : {c o n p : ℕ} → p ≡ none → r .staged ≡ false → r .revision ≢ top → c ≤ areaSize → o ≤ areaSize → n ≤ limit → Leaf r (begin false c o n) (answer (Done Nothing) (begun p c o n r))
+  beganStructural : {c o n p : ℕ} → p ≡ remove → r .staged ≡ false → r .revision ≢ top → c ≤ areaSize → o ≤ areaSize → n ≤ limit → Leaf r (begin true c o n) (answer (Done Nothing) (begun p c o n r))
+  structureAsked : Apart (r .phase .number) → Leaf r (ask structure) (issue Structure (r .phase .number) r)
+  updateEnded : Updates (r .phase .number) → r .restoring ≡ false → r .applied ≡ r .entries → Leaf r (ask update) (answer Finished (adopting r))
+  updateAsked : Updates (r .phase .number) → r .restoring ≡ false → r .applied ≢ r .entries → Leaf r (ask update) (issue Update (r .applied) (started r))
+  rollbackEnded : recoverRemove ≤ r .phase .number → Leaf r (ask rollback) (answer Finished r)
+  turnedEmpty : r .phase .number < recoverRemove → r .attempted ≡ 0 → Leaf r (ask rollback) (answer Finished (spent (turned recoverRemove r)))
+  turnedAsked : r .phase .number < recoverRemove → r .attempted ≢ 0 → Leaf r (ask rollback) (issue Rollback (r .attempted - 1) (turned undo r))
   waited : {c : Call} {n : ℕ} {vs : List ℕ} → Unseen c n vs → Leaf r c (tell n vs (spent r))
   waitedStoring : {c : Call} {n : ℕ} {vs : List ℕ} {new old : ℕ} → Unseen c n vs → new ≤ areaSize → old ≤ areaSize → Leaf r c (tell n vs (spent (storing new old r)))
-  went : {t new old n : ℕ} → eqb n 23 or eqb n 24 ≡ true → isLive structure t (r .live) ≡ true → new ≤ areaSize → old ≤ areaSize → Leaf r (reportStructure t O.Done new old) (tell n [] (advanced (spent (storing new old r))))
-  updateLast : {t : ℕ} → isLive update t (r .live) ≡ true → r .applied + 1 ≡ r .entries → Leaf r (reportUpdate t O.Done) (answer Finished (adopting (raised (spent r))))
-  updateMore : {t : ℕ} → isLive update t (r .live) ≡ true → r .applied + 1 ≢ r .entries → Leaf r (reportUpdate t O.Done) (answer More (raised (spent r)))
-  undoLast : {t : ℕ} → isLive rollback t (r .live) ≡ true → r .entries - 1 ≡ 0 → Leaf r (reportRollback t O.Done) (answer Finished (leaving (lowered (spent r))))
-  undoMore : {t : ℕ} → isLive rollback t (r .live) ≡ true → r .entries - 1 ≢ 0 → Leaf r (reportRollback t O.Done) (answer More (lowered (spent r)))
+  went : {t new old n : ℕ} → eqb n 23 or eqb n 24 ≡ true → isLive Tickets.structure t (r .live) ≡ true → new ≤ areaSize → old ≤ areaSize → Leaf r (report (structured new old) t O.Done) (tell n [] (advanced (spent (storing new old r))))
+  updateLast : {t : ℕ} → isLive Tickets.update t (r .live) ≡ true → r .applied + 1 ≡ r .entries → Leaf r (report updated t O.Done) (answer Finished (adopting (raised (spent r))))
+  updateMore : {t : ℕ} → isLive Tickets.update t (r .live) ≡ true → r .applied + 1 ≢ r .entries → Leaf r (report updated t O.Done) (answer More (raised (spent r)))
+  undoLast : {t : ℕ} → isLive Tickets.rollback t (r .live) ≡ true → r .entries - 1 ≡ 0 → Leaf r (report rolledBack t O.Done) (answer Finished (leaving (lowered (spent r))))
+  undoMore : {t : ℕ} → isLive Tickets.rollback t (r .live) ≡ true → r .entries - 1 ≢ 0 → Leaf r (report rolledBack t O.Done) (answer More (lowered (spent r)))
   edited : {c o : ℕ} → c ≤ areaSize → o ≤ areaSize → Leaf r (edit c o) (answer (Done Nothing) (withLengths (r .accepted) c o r))
   committed : r .staged ≡ true → Leaf r commit (answer (Done (Three (r .accepted) (r .recovery) (r .entries))) (settled (r .revision + 1) (r .candidate) r))
   recovered : {n : ℕ} → n ≤ areaSize → Leaf r (recover n) (recoveredTo n r)

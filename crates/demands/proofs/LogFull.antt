@@ -15,9 +15,10 @@ use Rattle.log.specs.Log.{full}
 use Rattle.recording.specs.Recorded.{recorded}
 use Rattle.events.specs.Entries.{logOf}
 use Rattle.events.proofs.Noting.{full-changes-nothing}
-use Rattle.demands.specs.Calls.{Call, stepWith, step}
+use Rattle.calls.specs.Calls.{Call, stepWith, step}
 use Rattle.demands.specs.Chains.{hears}
-use Rattle.demands.specs.Logged.{kindOf, written, loggedStep, logged}
+use Rattle.demands.specs.Logged.{written, loggedStep, logged}
+use Rattle.calls.specs.Kinds.{kindOf}
 use Rattle.demands.proofs.NeverFull.{Other, never-full}
 use Rattle.demands.proofs.LoggedSteps.{by-kind}
 
@@ -44,7 +45,6 @@ module _ (sized sound : Bool) (r : Record) (log : List ℕ) (c : Call) (lent mov
 
 module _ (r : Record) (log : List ℕ) (c : Call) (e : loggedStep r log c .told .number ≡ 12) where
   refuses : loggedStep r log c ≡ leaves (refuse LogFull r) (log ∷ [])
-  unfolding step
   refuses =
       by-kind r log c (λ (v : Leaves). v .told .number ≡ 12 → v ≡ leaves (refuse LogFull r) (log ∷ []))
       (λ k z. absurd (eqb-false _ _ (never-full true true r c) z))

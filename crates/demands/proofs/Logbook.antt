@@ -17,10 +17,11 @@ use Rattle.staging.specs.Beginning.{firstPhase, begun, beginOwn}
 use Rattle.settling.specs.Ending.{settled, commitOwn}
 use Rattle.phases.specs.Phases.{hasSuccessor}
 use Rattle.log.specs.Log.{logSized, headSound, sound, full, appended, blank}
-use Rattle.recording.specs.Recorded.{withLog, callWritten, recorded}
+use Rattle.recording.specs.Recorded.{withLog, recorded}
 use Rattle.events.specs.Entries.{logOf}
-use Rattle.logged_begins.specs.Begins.{openRecorded, beginKind, beginRecorded}
-use Rattle.logged_ends.specs.Ends.{commitRecorded}
+use Rattle.calls.specs.Lending.{Lending, unopened}
+use Rattle.calls.specs.Kinds.{kindOf, callWritten, writtenAs}
+use Rattle.recording.specs.Through.{leavesThrough}
 
 -- an area of 4,096 bytes, a table of 128 words, and a log of 16 words with something in it
 area : List ℕ
@@ -30,14 +31,14 @@ table : List ℕ
 table = replicate 128 0
 
 opened : Leaves
-opened = openRecorded 0 0 (replicate 16 7) area []
+opened = leavesThrough unopened (replicate 16 7) (Lending.openAt 0 0 area [])
 
 begun' : Leaves
-begun' = beginRecorded false (opened .told .state) (logOf opened) area area table [] [] []
+begun' = leavesThrough (opened .told .state) (logOf opened) (Lending.begin false area area table [] [] [])
 
 pub committed : Leaves
-committed = commitRecorded (begun' .told .state) (logOf begun') area area
+committed = leavesThrough (begun' .told .state) (logOf begun') (Lending.commit area area)
 
 pub logbook : logOf committed ≡ 2 ∷ 4 ∷ 3 ∷ 0 ∷ 1 ∷ 0 ∷ 0 ∷ 0 ∷ 9 ∷ 0 ∷ 0 ∷ 1 ∷ 0 ∷ 0 ∷ 0 ∷ 0 ∷ []
-unfolding area table opened begun' committed pick _and_ _or_ _implies_ sized long tableSized paired refused lengthsFit countsFit stagedFits forwardFits backFits restoringFits liveFits whole complete gateOf gated opening openStep firstPhase begun beginOwn settled commitOwn hasSuccessor logSized headSound sound full appended blank withLog callWritten recorded openRecorded beginKind beginRecorded commitRecorded
+unfolding leavesThrough kindOf writtenAs area table opened begun' committed pick _and_ _or_ _implies_ sized long tableSized paired refused lengthsFit countsFit stagedFits forwardFits backFits restoringFits liveFits whole complete gateOf gated opening openStep firstPhase begun beginOwn settled commitOwn hasSuccessor logSized headSound sound full appended blank withLog callWritten recorded
 logbook = refl

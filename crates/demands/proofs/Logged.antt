@@ -1,5 +1,4 @@
--- Every call through the log ends as `recorded` says, the opening aside: what number it answers, and what a refusal leaves. Assumes
--- nothing.
+-- How every call through the log ends: what number it answers, and what a refusal leaves. Assumes nothing.
 use Prim.Native.Nat.{ℕ}
 use mathlib.Core.Path.{_≡_, refl, sym, _∙_, ap}
 use mathlib.Core.Bool.{Bool, true, false, not}
@@ -12,17 +11,14 @@ use Rattle.record.specs.Leaves.{Leaves, leaves}
 use Rattle.record.specs.declared.Record.{Record}
 use Rattle.record.specs.declared.Refusal.the-variants.{LogFull}
 use Rattle.log.specs.Log.{full, event, appended}
+use Rattle.calls.specs.Calls.{Call, AnyCall, stepOf}
+use Rattle.calls.specs.Calls.AnyCall.{opens, calls}
+use Rattle.calls.specs.Lending.{Lending, callOf, lent, fits, moved}
+use Rattle.calls.specs.Kinds.{kindOf, kindOfAny, writtenAs}
 use Rattle.recording.specs.Recorded.{withLog, besides, recorded}
-use Rattle.recording.specs.Asks.{askStructureRecorded, askUpdateRecorded, askRollbackRecorded}
-use Rattle.logged_begins.specs.Begins.{openRecorded, beginKind, beginRecorded}
-use Rattle.logged_reports.specs.Reports.{reportStructureRecorded, reportUpdateRecorded, reportRollbackRecorded}
-use Rattle.logged_ends.specs.Ends.{commitRecorded, recoverRecorded, recoverRetainedRecorded, refreshRecorded}
-use Rattle.demands.specs.Calls.{stepWith}
-use Rattle.demands.specs.Refusals.{stepOf, returned}
-use Rattle.demands.specs.Lending.{Lending, callOf, lent, fits}
-use Rattle.demands.specs.Lending.Lending.{openAt, begin, askStructure, askUpdate, askRollback, reportStructure, reportUpdate, reportRollback, commit, recover, recoverRetained, refresh}
-use Rattle.demands.specs.Logged.{kindOf, writtenAs}
-use Rattle.demands.specs.Contracts.{recordedOf, kind, fitsThrough, inner, entered, logAfter}
+use Rattle.recording.specs.Through.{inner, logs, leavesThrough}
+use Rattle.demands.specs.Refusals.{returned}
+use Rattle.demands.specs.Through.{entered, logAfter}
 use Rattle.demands.proofs.ExactRefusals.{refusal-returns}
 use Rattle.demands.proofs.Written.{noted}
 
@@ -50,55 +46,53 @@ module _ (t twelve : Told) (r : Record) (log after : List ℕ) (lent moved : Lis
   refusal-of true false s u a b c h = (s h, row h (c h refl refl))
 
 module _ (r : Record) (log : List ℕ) where
-  pub record Ends (v : Leaves) (c : Lending true) : Type 0 where
-    pub number : v .told .number ≡ pick (writtenAs (kind c) (inner r log c .number) and full log) 12 (inner r log c .number)
-    pub refusal : refused (v .told .number) ≡ true → (v .told .state ≡ returned r (callOf c)) × (v .lent ≡ logAfter r log (kind c) (v .told .number) ∷ lent c)
+  -- v is left by the call c, whose inner answer is t
+  pub record Ends (v : Leaves) (c : AnyCall) (t : Told) (lent : List (List ℕ)) : Type 0 where
+    pub number : v .told .number ≡ pick (writtenAs (kindOfAny c) (t .number) and full log) 12 (t .number)
+    pub refusal : refused (v .told .number) ≡ true → (v .told .state ≡ returned r c) × (v .lent ≡ logAfter r log (kindOfAny c) (v .told .number) ∷ lent)
 
-  module _ (c : Lending true) where
-    abbrev n : ℕ
-    n = inner r log c .number
+  -- no entry
+  unwritten : (k m : ℕ) → entered k m ≡ false → log ≡ logAfter r log k m
+  unfolding logAfter
+  unwritten k m e = no _ e refl
 
-    kept : refused n ≡ true → inner r log c .state ≡ returned r (callOf c)
-    unfolding inner
-    kept h = refusal-returns _ _ r (callOf c) h
+  module _ (fits : Bool) (lent moved : List (List ℕ)) where
+    abbrev told : AnyCall → Told
+    told c = stepOf (withLog fits log .sized) (withLog fits log .sound) r c
 
-    -- no entry
-    unwritten : (m : ℕ) → entered (kind c) m ≡ false → log ≡ logAfter r log (kind c) m
-    unfolding logAfter
-    unwritten m e = no _ e refl
-
-    noted-as : (back : returned r (callOf c) ≡ r) → refused n ≡ true → writtenAs (kind c) n ≡ true → full log ≡ false
-        → appended (kind c) n (inner r log c .state .serial) (inner r log c .state .revision) log ≡ logAfter r log (kind c) n
-    unfolding logAfter appended
-    noted-as back h w f =
-        let e = sym (noted r log c h .exactly) ∙ w in
-        sym (no _ (ap not (noted r log c h .clean e)) (no _ f refl))
-        ∙ ap (λ (s : Record). event (kind c) n (s .serial) (s .revision) log) (kept h ∙ back)
+    entry : (c : AnyCall) → returned r c ≡ r → refused (told c .number) ≡ true → writtenAs (kindOfAny c) (told c .number) ≡ true → full log ≡ false
+        → appended (kindOfAny c) (told c .number) (told c .state .serial) (told c .state .revision) log ≡ logAfter r log (kindOfAny c) (told c .number)
+    unfolding logAfter appended withLog
+    entry c back h w f =
+        let n = noted r log fits c h in
+        let e = sym (n .exactly) ∙ w in
+        sym (no _ (ap not (n .clean e)) (no _ f refl))
+        ∙ ap (λ (s : Record). event (kindOfAny c) (told c .number) (s .serial) (s .revision) log) (refusal-returns _ _ r c h ∙ back)
         ∙ yes _ e refl
 
-    through : (moved : List (List ℕ)) → returned r (callOf c) ≡ r → Ends (recorded (writtenAs (kind c)) (kind c) (inner r log c) r log (lent c) moved) c
-    unfolding recorded entered _or_
-    through moved back = record {
-      number = number-of (inner r log c) (refuse LogFull r) r log _ (lent c) moved (logAfter r log (kind c)) _ _;
-      refusal =
-          refusal-of (inner r log c) (refuse LogFull r) (returned r (callOf c)) log _ (lent c) moved (logAfter r log (kind c)) _ _ kept (sym back)
-          (λ h w. unwritten n (sym (noted r log c h .exactly) ∙ w)) (unwritten 12 (no-right _ refl)) (noted-as back);
+    opening-ends : (v s n : ℕ) → Ends (logs (opens v s n) (told (opens v s n)) r log lent moved) (opens v s n) (told (opens v s n)) lent
+    unfolding returned writtenAs entered pick _and_ _or_
+    opening-ends v s n = record {
+      number = refl;
+      refusal = λ h. (refusal-returns (withLog fits log .sized) (withLog fits log .sound) r (opens v s n) h, sym (yes _ h refl) ∙ ap (λ (l : List ℕ). l ∷ lent) (unwritten 0 (told (opens v s n) .number) refl));
     }
 
-  pub ends-as : (c : Lending true) → Ends (recordedOf r log c) c
-  unfolding recordedOf openRecorded beginRecorded beginKind askStructureRecorded askUpdateRecorded askRollbackRecorded reportStructureRecorded reportUpdateRecorded reportRollbackRecorded commitRecorded recoverRecorded recoverRetainedRecorded refreshRecorded withLog stepOf stepWith returned inner fitsThrough callOf lent fits kindOf writtenAs entered pick _and_ _or_
-  ends-as (openAt v s a p) =
-      let c = openAt v s a p in
-      record { number = refl; refusal = λ h. (kept c h, sym (yes _ h refl) ∙ ap (λ (l : List ℕ). l ∷ a ∷ []) (unwritten c _ refl)) }
-  ends-as (begin true c o t new old pairs) = through (begin true c o t new old pairs) _ refl
-  ends-as (begin false c o t new old pairs) = through (begin false c o t new old pairs) _ refl
-  ends-as askStructure = through askStructure [] refl
-  ends-as askUpdate = through askUpdate [] refl
-  ends-as askRollback = through askRollback [] refl
-  ends-as (reportStructure c o ticket x new old) = through (reportStructure c o ticket x new old) _ refl
-  ends-as (reportUpdate t ticket x payload) = through (reportUpdate t ticket x payload) _ refl
-  ends-as (reportRollback t ticket x payload) = through (reportRollback t ticket x payload) _ refl
-  ends-as (commit a c) = through (commit a c) _ refl
-  ends-as (recover a x m) = through (recover a x m) _ refl
-  ends-as (recoverRetained a o x) = through (recoverRetained a o x) _ refl
-  ends-as (refresh a x m) = through (refresh a x m) _ refl
+    call-ends : (c : Call) → Ends (logs (calls c) (told (calls c)) r log lent moved) (calls c) (told (calls c)) lent
+    unfolding recorded returned entered withLog _or_
+    call-ends c =
+        let t = told (calls c) in
+        let after = appended (kindOf c) (t .number) (t .state .serial) (t .state .revision) log in
+        record {
+          number = number-of t (refuse LogFull r) r log after lent moved (logAfter r log (kindOf c)) (writtenAs (kindOf c) (t .number)) (full log);
+          refusal =
+              refusal-of t (refuse LogFull r) r log after lent moved (logAfter r log (kindOf c)) (writtenAs (kindOf c) (t .number)) (full log) (refusal-returns _ _ r (calls c)) refl
+              (λ h w. unwritten (kindOf c) (t .number) (sym (noted r log fits (calls c) h .exactly) ∙ w)) (unwritten (kindOf c) 12 (no-right _ refl)) (entry (calls c) refl);
+        }
+
+    ends-any : (c : AnyCall) → Ends (logs c (told c) r log lent moved) c (told c) lent
+    ends-any (opens v s n) = opening-ends v s n
+    ends-any (calls c) = call-ends c
+
+  pub ends-as : (c : Lending true) → Ends (leavesThrough r log c) (callOf c) (inner r log c) (lent c)
+  unfolding leavesThrough
+  ends-as c = ends-any (fits c) (lent c) (moved r c) (callOf c)

@@ -12,7 +12,7 @@ use Rattle.log.specs.Log.{logSized, count, room, sound}
 use Rattle.events.specs.Entries.{Entry, entries, logOf}
 use Rattle.log.proofs.Room.{head-of}
 use Rattle.events.proofs.Entries.{entries-length}
-use Rattle.demands.specs.Calls.{Call, step}
+use Rattle.calls.specs.Calls.{Call, step}
 use Rattle.demands.specs.Chains.{Heard, hears, after, heard}
 use Rattle.demands.specs.Logged.{loggedStep, logged, events}
 use Rattle.demands.proofs.LoggedSteps.{Kept, eventOf, kept, step-sound, step-length}

@@ -12,14 +12,15 @@ use Rattle.areas.specs.Areas.{sized, copied}
 use Rattle.record.specs.Answers.{refused}
 use Rattle.record.specs.Leaves.{Leaves, leaves}
 use Rattle.staging.specs.Opening.{openStep}
-use Rattle.begins.specs.Opens.{openLeaves}
 use Rattle.log.specs.Log.{logSized, count, room, roomOf, sound, blank}
 use Rattle.events.specs.Entries.{Entry, entries, logOf}
 use Rattle.events.proofs.Soundness.{blank-length, blank-count, blank-room, blank-sound}
 use Rattle.events.proofs.Entries.{none-opened}
 use Rattle.recording.specs.Recorded.{withLog}
-use Rattle.logged_begins.specs.Begins.{openRecorded}
-use Rattle.demands.specs.Calls.{Call}
+use Rattle.calls.specs.Calls.{Call}
+use Rattle.calls.specs.Lending.{Lending, leavesOf, unopened}
+use Rattle.calls.specs.Kinds.{kindOf, writtenAs}
+use Rattle.recording.specs.Through.{leavesThrough}
 use Rattle.demands.specs.Logged.{logged, events}
 use Rattle.demands.proofs.LoggedChains.{Same, same-chain}
 
@@ -31,11 +32,11 @@ opens false v s n h = never h
 
 module _ (revision serial : ℕ) (log a payload : List ℕ) where
   abbrev opened : Leaves
-  opened = openRecorded revision serial log a payload
+  opened = leavesThrough unopened log (Lending.openAt revision serial a payload)
 
   module _ (h : refused (opened .told .number) ≡ false) where
     fits : withLog (sized a) log .sized ≡ true
-    unfolding openRecorded
+    unfolding leavesThrough kindOf writtenAs _and_ pick
     fits = opens _ revision serial (length payload) h
 
     log-sized : logSized (length log) ≡ true
@@ -43,13 +44,13 @@ module _ (revision serial : ℕ) (log a payload : List ℕ) where
     log-sized = both fits .1
 
     -- the opening is the plain one
-    pub same-opening : opened .told ≡ openLeaves revision serial a payload .told
-    unfolding openRecorded openLeaves withLog
+    pub same-opening : opened .told ≡ leavesOf unopened (Lending.openAt revision serial a payload) .told
+    unfolding leavesThrough kindOf writtenAs withLog _and_ pick
     same-opening = ap (λ (b : Bool). openStep b revision serial (length payload)) (fits ∙ sym (both fits .0))
 
     -- "Opening writes the head from the length and zeroes the event words."
     cleared : logOf opened ≡ blank log
-    unfolding openRecorded
+    unfolding leavesThrough kindOf writtenAs _and_ pick
     cleared = sym (ap (λ (l : List (List ℕ)). logOf (leaves (opened .told) l)) (no {z = blank log ∷ copied payload a ∷ []} (log ∷ a ∷ []) h refl))
 
     pub opened-sound : sound (logOf opened) ≡ true

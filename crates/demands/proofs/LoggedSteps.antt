@@ -18,8 +18,9 @@ use Rattle.log.proofs.Room.{not-full}
 use Rattle.recording.specs.Recorded.{recorded}
 use Rattle.events.proofs.Laws.{stays-sound, same-length}
 use Rattle.events.proofs.Noting.{noted-one, noted-none, same-told, noted-last}
-use Rattle.demands.specs.Calls.{Call, stepWith, step}
-use Rattle.demands.specs.Logged.{noKind, kindOf, written, loggedStep, writtenAs}
+use Rattle.calls.specs.Calls.{Call, stepWith, step}
+use Rattle.demands.specs.Logged.{written, loggedStep}
+use Rattle.calls.specs.Kinds.{noKind, kindOf, writtenAs}
 
 -- the event of the plain call, if it has one
 abbrev pub eventOf : Record → Call → List Entry
@@ -55,7 +56,6 @@ module _ (r : Record) (log : List ℕ) (c : Call) where
   module _ (h : logSized (length log) ≡ true) (s : sound log ≡ true) where
     -- all being in order, the step is the plain one
     pub plain : stepWith (logSized (length log)) (sound log) r c ≡ step r c
-    unfolding step
     plain = ap (λ (b : Bool). stepWith b (sound log) r c) h ∙ ap (λ (b : Bool). stepWith true b r c) s
 
     pub kept : count log + length (eventOf r c) ≤ room log → Kept r log c (loggedStep r log c)

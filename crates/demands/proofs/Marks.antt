@@ -7,11 +7,10 @@ use mathlib.Core.List.{List}
 use lib.Dec.{eqb}
 use Rattle.choice.specs.Pick.{_and_, _or_}
 use Rattle.record.specs.Answers.{refused}
-use Rattle.status.specs.Status.{Marks, put, entryOf, marking, withInitialized, withCancelled, linkLeaves, initializeLeaves, cancelLeaves}
+use Rattle.status.specs.Status.{StatusCall, Marks, put, entryOf, marking, marksOf, allowed, next}
 use Rattle.status.specs.declared.Entry.{Entry}
 use Rattle.demands.specs.Rows.{given, among, distinct, count}
-use Rattle.demands.specs.Marks.{StatusCall, marksOf, allowed, statusRows, statusNumbers}
-use Rattle.demands.specs.Marks.StatusCall.{link, initialize, cancel}
+use Rattle.demands.specs.Marks.{statusRows, statusNumbers}
 use Rattle.demands.proofs.Rows.{View, Fits, now, row, row-else, again, around, under, over}
 use Rattle.demands.proofs.Rows.Leaf.{stays, goes}
 use Rattle.demands.proofs.OneRow.{Listed, one-given, one-listed}
@@ -20,23 +19,16 @@ module _ (groups status : List ℕ) (id : ℕ) where
   abbrev leaving : View Marks
   leaving = record { number = λ m. m .said .number; same = λ m. m .status ≡ status }
 
-  -- what every status call does, by when it is allowed and what it writes
-  marks-fit : (c : StatusCall) (next : ℕ → ℕ) → Fits leaving (marking (entryOf groups status id) status (allowed c) next) (statusRows groups status id c)
+  fits-rows : (c : StatusCall) → Fits leaving (marksOf groups status id c) (statusRows groups status id c)
   unfolding statusRows entryOf marking put refused _and_
-  marks-fit c next =
+  fits-rows c =
       over F
       (again _ _ _ _ (again _ _ _ _ (row _ (stays refl refl) (λ _.
       again _ _ _ _ (around _ _ _ (stays refl refl)
       (row-else _ (stays refl refl) (λ _. under F (row {v = leaving} _ (stays refl refl) (λ _. now (goes refl refl))))))))))
     where
       F : Entry → Marks
-      F e = marking e status (allowed c) next
-
-  fits-rows : (c : StatusCall) → Fits leaving (marksOf groups status id c) (statusRows groups status id c)
-  unfolding marksOf linkLeaves initializeLeaves cancelLeaves allowed
-  fits-rows (link domain) = marks-fit (link domain) (λ mark. 1)
-  fits-rows initialize = marks-fit initialize withInitialized
-  fits-rows cancel = marks-fit cancel withCancelled
+      F e = marking e status (allowed c) (next c)
 
   module _ (c : StatusCall) where
     all-listed : Listed (statusRows groups status id c) statusNumbers

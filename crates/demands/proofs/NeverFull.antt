@@ -5,11 +5,14 @@ use lib.Dec.{eqb}
 use Rattle.choice.specs.Pick.{_or_}
 use Rattle.record.specs.Answers.{Told}
 use Rattle.record.specs.declared.Record.{Record}
-use Rattle.demands.specs.Calls.{Call, stepWith}
-use Rattle.demands.specs.Calls.Call.{begin, beginStructural, askStructure, askUpdate, askRollback, reportStructure, reportUpdate, reportRollback, edit, commit, recover, recoverRetained, refresh, stamp, check}
+use Rattle.calls.specs.Calls.{Call, stepWith}
+use Rattle.calls.specs.Calls.Work.{structure, update, rollback}
+use Rattle.calls.specs.Calls.Report.{structured, updated, rolledBack}
+use Rattle.calls.specs.Calls.Call.{begin, ask, report, edit, commit, recover, recoverRetained, refresh, stamp, check}
 use Rattle.demands.specs.Rows.{among}
-use Rattle.demands.specs.Refusals.{numbersOf, stepOf}
-use Rattle.demands.specs.Refusals.AnyCall.{calls}
+use Rattle.calls.specs.Calls.{stepOf}
+use Rattle.demands.specs.Refusals.{numbersOf}
+use Rattle.calls.specs.Calls.AnyCall.{calls}
 use Rattle.demands.proofs.ExactRefusals.{listed-answer}
 use Rattle.demands.proofs.OneRow.{unlisted}
 
@@ -19,14 +22,13 @@ Other t = eqb (t .number) 12 ≡ false
 -- 12 is in no call's list
 absent : (c : Call) → among 12 (numbersOf (calls c)) ≡ false
 unfolding among numbersOf _or_
-absent (begin c o n) = refl
-absent (beginStructural c o n) = refl
-absent askStructure = refl
-absent askUpdate = refl
-absent askRollback = refl
-absent (reportStructure t x c o) = refl
-absent (reportUpdate t x) = refl
-absent (reportRollback t x) = refl
+absent (begin structural c o n) = refl
+absent (ask structure) = refl
+absent (ask update) = refl
+absent (ask rollback) = refl
+absent (report (structured c o) t x) = refl
+absent (report updated t x) = refl
+absent (report rolledBack t x) = refl
 absent (edit c o) = refl
 absent commit = refl
 absent (recover n) = refl
@@ -36,5 +38,4 @@ absent (stamp d) = refl
 absent (check d e v) = refl
 
 pub never-full : (sized sound : Bool) (r : Record) (c : Call) → Other (stepWith sized sound r c)
-unfolding stepOf
 never-full sized sound r c = unlisted _ 12 (numbersOf (calls c)) (listed-answer sized sound r (calls c)) (absent c)

@@ -7,8 +7,9 @@ use Rattle.choice.proofs.Tests.{never, both}
 use Rattle.record.specs.Fields.{top}
 use Rattle.record.specs.declared.Record.{Record}
 use Rattle.wholeness.specs.Whole.{whole}
-use Rattle.demands.specs.Calls.{Call}
-use Rattle.demands.specs.Calls.Call.{begin, beginStructural, askStructure, askUpdate, askRollback, reportStructure, reportUpdate, reportRollback, edit, commit, recover, recoverRetained, refresh, stamp, check}
+use Rattle.calls.specs.Calls.{Call}
+use Rattle.calls.specs.Calls.Work.{structure, update, rollback}
+use Rattle.calls.specs.Calls.Call.{begin, ask, report, edit, commit, recover, recoverRetained, refresh, stamp, check}
 use Rattle.demands.specs.Plans.{due}
 use Rattle.demands.proofs.Leaf.{Apart, Updates}
 use Rattle.demands.proofs.Facts.{Whole, tests}
@@ -18,20 +19,17 @@ use Rattle.demands.proofs.Granting.{due-update}
 
 -- which asking is due, with what that says of the record
 data Due (r : Record) : Call → Type 0 where
-  structure : Apart (r .phase .number) → Due r askStructure
-  update : Updates (r .phase .number) → r .restoring ≡ false → Due r askUpdate
-  rollback : r .restoring ≡ true → 0 < r .entries → Due r askRollback
+  settle : Apart (r .phase .number) → Due r (ask structure)
+  apply : Updates (r .phase .number) → r .restoring ≡ false → Due r (ask update)
+  undo : r .restoring ≡ true → 0 < r .entries → Due r (ask rollback)
 
 due-is : (r : Record) → Whole r → (c : Call) → due r c ≡ true → Due r c
 unfolding due
-due-is r w askStructure d = structure (apart-of _ d)
-due-is r w askUpdate d = let x = due-update w d in update (x .0) (x .1)
-due-is r w askRollback d = let x = both d in rollback (x .0) (ltb-true _ _ (x .1))
-due-is r w (begin c o n) d = never (sym d)
-due-is r w (beginStructural c o n) d = never (sym d)
-due-is r w (reportStructure t x c o) d = never (sym d)
-due-is r w (reportUpdate t x) d = never (sym d)
-due-is r w (reportRollback t x) d = never (sym d)
+due-is r w (ask structure) d = settle (apart-of _ d)
+due-is r w (ask update) d = let x = due-update w d in apply (x .0) (x .1)
+due-is r w (ask rollback) d = let x = both d in undo (x .0) (ltb-true _ _ (x .1))
+due-is r w (begin structural c o n) d = never (sym d)
+due-is r w (report k t x) d = never (sym d)
 due-is r w (edit c o) d = never (sym d)
 due-is r w commit d = never (sym d)
 due-is r w (recover n) d = never (sym d)
@@ -50,15 +48,15 @@ undoing y (Undo.plain e x1 x2 x3) = absurd (y .not0 e)
 undoing y (Undo.inside e x1 x2 x3 x4) = absurd (y .not8 e)
 
 one : (r : Record) → Whole r → {c e : Call} → Due r c → Due r e → c ≡ e
-one r w (structure y) (structure z) = refl
-one r w (structure y) (update u e) = settling y u
-one r w (structure y) (rollback e h) = undoing y (inUndo (w .stage) e h)
-one r w (update u e) (structure y) = settling y u
-one r w (update u e) (update v d) = refl
-one r w (update u e) (rollback d h) = absurd (omega tests)
-one r w (rollback e h) (structure y) = undoing y (inUndo (w .stage) e h)
-one r w (rollback d h) (update u e) = absurd (omega tests)
-one r w (rollback e h) (rollback d g) = refl
+one r w (settle y) (settle z) = refl
+one r w (settle y) (apply u e) = settling y u
+one r w (settle y) (undo e h) = undoing y (inUndo (w .stage) e h)
+one r w (apply u e) (settle y) = settling y u
+one r w (apply u e) (apply v d) = refl
+one r w (apply u e) (undo d h) = absurd (omega tests)
+one r w (undo e h) (settle y) = undoing y (inUndo (w .stage) e h)
+one r w (undo d h) (apply u e) = absurd (omega tests)
+one r w (undo e h) (undo d g) = refl
 
 -- "the due asking": two that are due are the same
 pub one-due : (r : Record) (c e : Call) → r .revision ≤ top → whole r ≡ true → due r c ≡ true → due r e ≡ true → c ≡ e

@@ -4,7 +4,8 @@ use mathlib.Core.Path.{_≡_, refl}
 use mathlib.Core.Bool.{Bool, true, false}
 use Rattle.choice.specs.Pick.{pick, _and_}
 use Rattle.record.specs.Answers.{Told, Said, told, refuse}
-use Rattle.record.specs.Live.{isLive, structure, update, rollback}
+use Rattle.record.specs.Live.{isLive}
+use Rattle.record.specs.Live as Tickets
 use Rattle.record.specs.Fields.{spent}
 use Rattle.record.specs.declared.Record.{Record}
 use Rattle.record.specs.declared.Refusal.{Refusal}
@@ -20,8 +21,10 @@ use Rattle.settling.specs.Ending.{commitOwn, recoverOwn, recoverRetainedOwn, re
 use Rattle.stamping.specs.Stamping.{saysStamping, saysChecked, stampStep, passes, checkStep}
 use Rattle.stamping.specs.declared.Stamping.the-variants as S
 use Rattle.stamping.specs.declared.Checked.the-variants as C
-use Rattle.demands.specs.Calls.{Call, stepWith, step}
-use Rattle.demands.specs.Calls.Call.{begin, beginStructural, askStructure, askUpdate, askRollback, reportStructure, reportUpdate, reportRollback, edit, commit, recover, recoverRetained, refresh, stamp, check}
+use Rattle.calls.specs.Calls.{Call, stepWith, step}
+use Rattle.calls.specs.Calls.Work.{structure, update, rollback}
+use Rattle.calls.specs.Calls.Report.{structured, updated, rolledBack}
+use Rattle.calls.specs.Calls.Call.{begin, ask, report, edit, commit, recover, recoverRetained, refresh, stamp, check}
 
 -- a report: 10 unless its ticket is the live one of its kind
 abbrev pub live : ℕ → ℕ → Record → Told → Told
@@ -29,14 +32,13 @@ live kind ticket r own = pick (isLive kind ticket (r .live)) own (refuse Stale r
 
 -- what a call does behind its gate
 unfoldable pub own : Record → Call → Told
-own r (begin c o n) = beginOwn false r c o n
-own r (beginStructural c o n) = beginOwn true r c o n
-own r askStructure = askStructureOwn r
-own r askUpdate = askUpdateOwn r
-own r askRollback = askRollbackOwn r
-own r (reportStructure t x c o) = live structure t r (reportStructureOwn r x c o)
-own r (reportUpdate t x) = live update t r (reported x (spent r) (updateDone (spent r)))
-own r (reportRollback t x) = live rollback t r (reported x (spent r) (rollbackDone (spent r)))
+own r (begin structural c o n) = beginOwn structural r c o n
+own r (ask structure) = askStructureOwn r
+own r (ask update) = askUpdateOwn r
+own r (ask rollback) = askRollbackOwn r
+own r (report (structured c o) t x) = live Tickets.structure t r (reportStructureOwn r x c o)
+own r (report updated t x) = live Tickets.update t r (reported x (spent r) (updateDone (spent r)))
+own r (report rolledBack t x) = live Tickets.rollback t r (reported x (spent r) (rollbackDone (spent r)))
 own r (edit c o) = editOwn r c o
 own r commit = commitOwn r
 own r (recover n) = recoverOwn r n
@@ -63,15 +65,14 @@ module _ (r : Record) where
   report-whole kind ticket x h = rw h (gated-pick (isLive kind ticket (r .live)) Stale r x)
 
   pub whole-step : (c : Call) → whole r ≡ true → step r c ≡ own r c
-  unfolding step stepWith own gateOf gated reportGate behind pick _and_ stampStep checkStep
-  whole-step (begin c o n) h = rw h
-  whole-step (beginStructural c o n) h = rw h
-  whole-step askStructure h = rw h
-  whole-step askUpdate h = rw h
-  whole-step askRollback h = rw h
-  whole-step (reportStructure t x c o) h = report-whole structure t _ h
-  whole-step (reportUpdate t x) h = report-whole update t _ h
-  whole-step (reportRollback t x) h = report-whole rollback t _ h
+  unfolding own gateOf gated reportGate behind pick _and_ stampStep checkStep
+  whole-step (begin structural c o n) h = rw h
+  whole-step (ask structure) h = rw h
+  whole-step (ask update) h = rw h
+  whole-step (ask rollback) h = rw h
+  whole-step (report (structured c o) t x) h = report-whole Tickets.structure t _ h
+  whole-step (report updated t x) h = report-whole Tickets.update t _ h
+  whole-step (report rolledBack t x) h = report-whole Tickets.rollback t _ h
   whole-step (edit c o) h = rw h
   whole-step commit h = rw h
   whole-step (recover n) h = rw h
@@ -81,15 +82,14 @@ module _ (r : Record) where
   whole-step (check domain d v) h = rw h (told-pick (passes r domain d v) r _ _)
 
   pub damaged-step : (c : Call) → whole r ≡ false → step r c ≡ refuse Damaged r
-  unfolding step stepWith gateOf gated reportGate behind pick _and_ stampStep checkStep
-  damaged-step (begin c o n) h = rw h
-  damaged-step (beginStructural c o n) h = rw h
-  damaged-step askStructure h = rw h
-  damaged-step askUpdate h = rw h
-  damaged-step askRollback h = rw h
-  damaged-step (reportStructure t x c o) h = rw h
-  damaged-step (reportUpdate t x) h = rw h
-  damaged-step (reportRollback t x) h = rw h
+  unfolding gateOf gated reportGate behind pick _and_ stampStep checkStep
+  damaged-step (begin structural c o n) h = rw h
+  damaged-step (ask structure) h = rw h
+  damaged-step (ask update) h = rw h
+  damaged-step (ask rollback) h = rw h
+  damaged-step (report (structured c o) t x) h = rw h
+  damaged-step (report updated t x) h = rw h
+  damaged-step (report rolledBack t x) h = rw h
   damaged-step (edit c o) h = rw h
   damaged-step commit h = rw h
   damaged-step (recover n) h = rw h

@@ -8,7 +8,7 @@ use Rattle.record.specs.declared.Record.{Record}
 use Rattle.staging.specs.Beginning.{begun}
 use Rattle.asking.specs.Asks.{turned}
 use Rattle.reporting.specs.Done.{leaving}
-use Rattle.demands.specs.Calls.{Call}
+use Rattle.calls.specs.Calls.{Call}
 use Rattle.demands.proofs.Leaf.{Leaf}
 use Rattle.demands.proofs.Leaf.Leaf.{kept, began, beganStructural, structureAsked, updateEnded, updateAsked, rollbackEnded, turnedEmpty, turnedAsked, waited, waitedStoring, went, updateLast, updateMore, undoLast, undoMore, edited, committed, recovered, restored, refreshed}
 use Rattle.demands.proofs.Facts.{Whole}

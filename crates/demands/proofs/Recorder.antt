@@ -13,11 +13,12 @@ use Rattle.choice.proofs.Tests.{never, no-left, tests}
 use Rattle.record.specs.Answers.{refused}
 use Rattle.record.specs.declared.Record.{Record}
 use Rattle.log.specs.Log.{full}
+use Rattle.calls.specs.Lending.{Lending, callOf, lent}
+use Rattle.calls.specs.Kinds.{kind, writtenAs}
+use Rattle.recording.specs.Through.{inner, leavesThrough}
 use Rattle.demands.specs.Rows.{among, distinct, count}
 use Rattle.demands.specs.Refusals.{returned, numbersOf}
-use Rattle.demands.specs.Lending.{Lending, callOf, lent}
-use Rattle.demands.specs.Logged.{writtenAs}
-use Rattle.demands.specs.Contracts.{recordedOf, kind, inner, givenThrough, numbersThrough, logAfter}
+use Rattle.demands.specs.Through.{givenThrough, numbersThrough, logAfter}
 use Rattle.demands.proofs.OneRow.{one-passes, apart}
 use Rattle.demands.proofs.ExactRefusals.{all-listed, exact-refusals, listed-answer}
 use Rattle.demands.proofs.Logged.{ends-as}
@@ -54,12 +55,12 @@ module _ (r : Record) (log : List ℕ) (c : Lending true) where
   abbrev n : ℕ
   n = inner r log c .number
 
-  pub recorder-exact : (k : ℕ) → eqb (recordedOf r log c .told .number) k ≡ givenThrough r log c k
-  unfolding inner givenThrough
+  pub recorder-exact : (k : ℕ) → eqb (leavesThrough r log c .told .number) k ≡ givenThrough r log c k
+  unfolding givenThrough
   recorder-exact k = ap (λ (m : ℕ). eqb m k) (ends-as r log c .number) ∙ tested _ 12 n (λ (m : ℕ). eqb m k) refl (exact-refusals _ _ r (callOf c) k)
 
-  pub recorder-listed : among (recordedOf r log c .told .number) (numbersThrough c) ≡ true
-  unfolding inner numbersThrough
+  pub recorder-listed : among (leavesThrough r log c .told .number) (numbersThrough c) ≡ true
+  unfolding numbersThrough
   recorder-listed =
       ap (λ (m : ℕ). among m (numbersThrough c)) (ends-as r log c .number)
       ∙ twelve-listed _ _ n (numbersOf (callOf c)) (λ e. no-left (full log) (no-kind (kind c) n e)) (listed-answer _ _ r (callOf c))
@@ -70,7 +71,7 @@ module _ (r : Record) (log : List ℕ) (c : Lending true) where
   recorder-one =
       one-passes _ (givenThrough r log c) (numbersThrough c) recorder-exact (distinct-through _ (numbersOf (callOf c)) (all-listed true true r (callOf c) .1)) recorder-listed
 
-  pub recorder-refusal : refused (recordedOf r log c .told .number) ≡ true
-      → (recordedOf r log c .told .state ≡ returned r (callOf c))
-      × (recordedOf r log c .lent ≡ logAfter r log (kind c) (recordedOf r log c .told .number) ∷ lent c)
+  pub recorder-refusal : refused (leavesThrough r log c .told .number) ≡ true
+      → (leavesThrough r log c .told .state ≡ returned r (callOf c))
+      × (leavesThrough r log c .lent ≡ logAfter r log (kind c) (leavesThrough r log c .told .number) ∷ lent c)
   recorder-refusal = ends-as r log c .refusal

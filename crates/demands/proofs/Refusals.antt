@@ -7,7 +7,8 @@ use mathlib.Core.List.{List, [], _∷_}
 use Rattle.choice.specs.Pick.{pick, _and_}
 use Rattle.choice.proofs.Tests.{both}
 use Rattle.phases.specs.Phases.{hasSuccessor, successor, boundary}
-use Rattle.record.specs.Live.{isLive, structure, update, rollback}
+use Rattle.record.specs.Live.{isLive}
+use Rattle.record.specs.Live as Tickets
 use Rattle.record.specs.Answers.{Told, told, refused, refuse, refusalNumber}
 use Rattle.record.specs.declared.Record.{Record}
 use Rattle.record.specs.declared.Outcome.{Outcome}
@@ -26,11 +27,14 @@ use Rattle.reporting.specs.Done.{onward, advanced, structureDone, updateDone, r
 use Rattle.reporting.specs.Reports.{behind, reportGate, reported, reportStructureOwn}
 use Rattle.settling.specs.Ending.{commitOwn, unrestored, recoverOwn, recoverRetainedOwn, refreshOwn}
 use Rattle.stamping.specs.Stamping.{stampStep, checkStep}
-use Rattle.demands.specs.Calls.{stepWith}
-use Rattle.demands.specs.Calls.Call.{begin, beginStructural, askStructure, askUpdate, askRollback, reportStructure, reportUpdate, reportRollback, edit, commit, recover, recoverRetained, refresh, stamp, check}
+use Rattle.calls.specs.Calls.{stepWith}
+use Rattle.calls.specs.Calls.Work.{structure, update, rollback}
+use Rattle.calls.specs.Calls.Report.{structured, updated, rolledBack}
+use Rattle.calls.specs.Calls.Call.{begin, ask, report, edit, commit, recover, recoverRetained, refresh, stamp, check}
 use Rattle.demands.specs.Rows.{Row, _when_, otherwise}
-use Rattle.demands.specs.Refusals.{AnyCall, stepOf, returned, gateRows, beginRows, reportRows, rows}
-use Rattle.demands.specs.Refusals.AnyCall.{opens, calls}
+use Rattle.calls.specs.Calls.{AnyCall, stepOf}
+use Rattle.demands.specs.Refusals.{returned, gateRows, beginRows, reportRows, rows}
+use Rattle.calls.specs.Calls.AnyCall.{opens, calls}
 use Rattle.demands.proofs.Rows.{View, Fits, Leaf, now, later, row, row-else, around, alike, along, under, over}
 use Rattle.demands.proofs.Rows.Leaf.{stays, goes}
 
@@ -91,20 +95,20 @@ module _ (sized sound : Bool) (r : Record) where
       (row _ (stays refl refl) (λ _. row _ (stays refl refl) (λ _. row _ (stays refl refl) (λ _. row _ (stays refl refl) (λ _. now (goes refl refl))))))
 
   pub fits-rows : (c : AnyCall) → Fits (telling (returned r c)) (stepOf sized sound r c) (rows sized sound r c)
-  unfolding stepOf stepWith returned rows refused _and_ openStep askStructureOwn askUpdateOwn askRollbackOwn reportStructureOwn updateDone rollbackDone editOwn commitOwn unrestored recoverOwn recoverRetainedOwn refreshOwn stampStep checkStep
+  unfolding returned rows refused _and_ openStep askStructureOwn askUpdateOwn askRollbackOwn reportStructureOwn updateDone rollbackDone editOwn commitOwn unrestored recoverOwn recoverRetainedOwn refreshOwn stampStep checkStep
   fits-rows (opens v s n) = row _ (stays refl refl) (λ _. row _ (stays refl refl) (λ _. now (goes refl refl)))
-  fits-rows (calls (begin c o n)) = begins false c o n
-  fits-rows (calls (beginStructural c o n)) = begins true c o n
-  fits-rows (calls askStructure) =
+  fits-rows (calls (begin false c o n)) = begins false c o n
+  fits-rows (calls (begin true c o n)) = begins true c o n
+  fits-rows (calls (ask structure)) =
       gated-call r sized sound (row _ (stays refl refl) (λ _. row _ (goes refl refl) (λ _. row _ (stays refl refl) (λ _. now (goes refl refl)))))
-  fits-rows (calls askUpdate) =
+  fits-rows (calls (ask update)) =
       gated-call r sized sound (row _ (stays refl refl) (λ _. row _ (goes refl refl) (λ _. row _ (stays refl refl) (λ _. now (goes refl refl)))))
-  fits-rows (calls askRollback) =
+  fits-rows (calls (ask rollback)) =
       gated-call r sized sound (around _ _ _ (goes refl refl) (row _ (stays refl refl) (λ _. row _ (goes refl refl) (λ _. now (goes refl refl)))))
-  fits-rows (calls (reportStructure t x c o)) =
-      gated-report r sized sound structure t (λ w e. row _ (stays refl refl) (λ _. outcomes r x _ (structure-done r _ (live-structure _ t _ _ _ _ _ _ (parts w .live) e))))
-  fits-rows (calls (reportUpdate t x)) = gated-report r sized sound update t (λ w e. outcomes r x _ (row _ (goes refl refl) (λ _. now (goes refl refl))))
-  fits-rows (calls (reportRollback t x)) = gated-report r sized sound rollback t (λ w e. outcomes r x _ (row _ (goes refl refl) (λ _. now (goes refl refl))))
+  fits-rows (calls (report (structured c o) t x)) =
+      gated-report r sized sound Tickets.structure t (λ w e. row _ (stays refl refl) (λ _. outcomes r x _ (structure-done r _ (live-structure _ t _ _ _ _ _ _ (parts w .live) e))))
+  fits-rows (calls (report updated t x)) = gated-report r sized sound Tickets.update t (λ w e. outcomes r x _ (row _ (goes refl refl) (λ _. now (goes refl refl))))
+  fits-rows (calls (report rolledBack t x)) = gated-report r sized sound Tickets.rollback t (λ w e. outcomes r x _ (row _ (goes refl refl) (λ _. now (goes refl refl))))
   fits-rows (calls (edit c o)) = gated-call r sized sound (row _ (stays refl refl) (λ _. row _ (stays refl refl) (λ _. now (goes refl refl))))
   fits-rows (calls commit) = gated-call r sized sound (row _ (stays refl refl) (λ _. row _ (stays refl refl) (λ _. now (goes refl refl))))
   fits-rows (calls (recover n)) =

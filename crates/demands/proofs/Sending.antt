@@ -19,8 +19,10 @@ use Rattle.wholeness.specs.declared.Gate.the-variants.{Shut}
 use Rattle.reporting.specs.Reports.{behind, reportGate}
 use Rattle.log.specs.Log.{full}
 use Rattle.recording.specs.Recorded.{recorded}
-use Rattle.demands.specs.Calls.{Call, stepWith, step}
-use Rattle.demands.specs.Calls.Call.{begin, beginStructural, askStructure, askUpdate, askRollback, reportStructure, reportUpdate, reportRollback, edit, commit, recover, recoverRetained, refresh, stamp, check}
+use Rattle.calls.specs.Calls.{Call, stepWith, step}
+use Rattle.calls.specs.Calls.Work.{structure, update, rollback}
+use Rattle.calls.specs.Calls.Report.{structured, updated, rolledBack}
+use Rattle.calls.specs.Calls.Call.{begin, ask, report, edit, commit, recover, recoverRetained, refresh, stamp, check}
 use Rattle.demands.specs.Chains.{Heard, hears, after, heard}
 use Rattle.demands.specs.Sending.{Sent, plainly, answered, afterSent, heardSent}
 use Rattle.demands.proofs.Unseen.{unseen}
@@ -56,15 +58,14 @@ module _ (r : Record) where
 
     -- stamps and checks are lent nothing, and do their step
     unopened : (c : Call) → Leaf r c (stepWith sized sound r c)
-    unfolding stepWith step reportGate
-    unopened (begin c o n) = at-gate _ _
-    unopened (beginStructural c o n) = at-gate _ _
-    unopened askStructure = at-gate _ _
-    unopened askUpdate = at-gate _ _
-    unopened askRollback = at-gate _ _
-    unopened (reportStructure t x c o) = at-report _ _ _
-    unopened (reportUpdate t x) = at-report _ _ _
-    unopened (reportRollback t x) = at-report _ _ _
+    unfolding reportGate
+    unopened (begin structural c o n) = at-gate _ _
+    unopened (ask structure) = at-gate _ _
+    unopened (ask update) = at-gate _ _
+    unopened (ask rollback) = at-gate _ _
+    unopened (report (structured c o) t x) = at-report _ _ _
+    unopened (report updated t x) = at-report _ _ _
+    unopened (report rolledBack t x) = at-report _ _ _
     unopened (edit c o) = at-gate _ _
     unopened commit = at-gate _ _
     unopened (recover n) = at-gate _ _
@@ -74,7 +75,7 @@ module _ (r : Record) where
     unopened (check domain d v) = leaf r (check domain d v)
 
   stepped : (sized sound : Bool) (c : Call) → Leaf r c (stepWith sized sound r c)
-  unfolding step _and_
+  unfolding _and_
   stepped true true c = leaf r c
   stepped true false c = unopened true false refl c
   stepped false sound c = unopened false sound refl c
@@ -91,7 +92,7 @@ module _ (r : Record) where
 -- a plain chain is a chain of calls that are sent plainly
 module _ (r : Record) where
   plain-answer : (c : Call) → answered r (plainly c) ≡ step r c
-  unfolding answered step
+  unfolding answered
   plain-answer c = sym (no _ (no-right _ refl) refl)
 
 pub plain-after : (r : Record) (cs : List Call) → afterSent r (map plainly cs) ≡ after r cs

@@ -15,8 +15,8 @@ use Rattle.record.specs.Fields.{top}
 use Rattle.record.specs.declared.Record.{Record}
 use Rattle.wholeness.specs.Whole.{whole}
 use Rattle.stamping.specs.Stamping.{passes}
-use Rattle.demands.specs.Calls.{step}
-use Rattle.demands.specs.Calls.Call.{stamp, check}
+use Rattle.calls.specs.Calls.{step}
+use Rattle.calls.specs.Calls.Call.{stamp, check}
 use Rattle.demands.specs.Chains.{hears}
 use Rattle.demands.specs.Sending.{Sent, afterSent, heardSent}
 use Rattle.demands.specs.Watching.{Watch, watch, unwatched}

@@ -4,7 +4,8 @@ use mathlib.Core.Path.{_≡_, refl, ap}
 use mathlib.Core.Bool.{true, false}
 use borrow.Author.Tests.{eqb-true}
 use Rattle.choice.proofs.Tests.{both, tests}
-use Rattle.record.specs.Live.{isLive, structure, update, rollback}
+use Rattle.record.specs.Live.{isLive}
+use Rattle.record.specs.Live as Tickets
 use Rattle.record.specs.declared.Record.{Record}
 use Rattle.record.specs.declared.Live.{Live}
 use Rattle.record.specs.declared.Live.the-variants.{None, Structure, Update, Rollback}
@@ -13,21 +14,21 @@ use Rattle.demands.proofs.Leaf.{Updates}
 use Rattle.demands.proofs.Facts as Facts
 use Rattle.demands.proofs.Facts.{Whole, Tick, OnStructure, OnUpdate, OnRollback}
 
-pub is-structure : (l : Live) (t : ℕ) → isLive structure t l ≡ true → l ≡ Structure t
+pub is-structure : (l : Live) (t : ℕ) → isLive Tickets.structure t l ≡ true → l ≡ Structure t
 unfolding isLive
 is-structure None t e = absurd (omega (tests, both e))
 is-structure (Structure n) t e = ap Structure (eqb-true _ _ (both e .1))
 is-structure (Update n) t e = absurd (omega (tests, both e))
 is-structure (Rollback n) t e = absurd (omega (tests, both e))
 
-pub is-update : (l : Live) (t : ℕ) → isLive update t l ≡ true → l ≡ Update t
+pub is-update : (l : Live) (t : ℕ) → isLive Tickets.update t l ≡ true → l ≡ Update t
 unfolding isLive
 is-update None t e = absurd (omega (tests, both e))
 is-update (Structure n) t e = absurd (omega (tests, both e))
 is-update (Update n) t e = ap Update (eqb-true _ _ (both e .1))
 is-update (Rollback n) t e = absurd (omega (tests, both e))
 
-pub is-rollback : (l : Live) (t : ℕ) → isLive rollback t l ≡ true → l ≡ Rollback t
+pub is-rollback : (l : Live) (t : ℕ) → isLive Tickets.rollback t l ≡ true → l ≡ Rollback t
 unfolding isLive
 is-rollback None t e = absurd (omega (tests, both e))
 is-rollback (Structure n) t e = absurd (omega (tests, both e))
@@ -35,13 +36,13 @@ is-rollback (Update n) t e = absurd (omega (tests, both e))
 is-rollback (Rollback n) t e = ap Rollback (eqb-true _ _ (both e .1))
 
 module _ {r : Record} (w : Whole r) {t : ℕ} where
-  pub onStructure : isLive structure t (r .live) ≡ true → OnStructure t (r .serial) (r .phase .number)
+  pub onStructure : isLive Tickets.structure t (r .live) ≡ true → OnStructure t (r .serial) (r .phase .number)
   onStructure e = rw (is-structure (r .live) t e) at (w .ticket)
 
-  pub onUpdate : isLive update t (r .live) ≡ true → OnUpdate t (r .serial) (r .phase .number) (r .applied) (r .attempted) (r .restoring)
+  pub onUpdate : isLive Tickets.update t (r .live) ≡ true → OnUpdate t (r .serial) (r .phase .number) (r .applied) (r .attempted) (r .restoring)
   onUpdate e = rw (is-update (r .live) t e) at (w .ticket)
 
-  pub onRollback : isLive rollback t (r .live) ≡ true → OnRollback t (r .serial) (r .entries) (r .restoring)
+  pub onRollback : isLive Tickets.rollback t (r .live) ≡ true → OnRollback t (r .serial) (r .entries) (r .restoring)
   onRollback e = rw (is-rollback (r .live) t e) at (w .ticket)
 
 -- no ticket is live where an asking for an update is answered Finished

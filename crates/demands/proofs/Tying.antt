@@ -15,7 +15,7 @@ use Rattle.staging.specs.Beginning.{begun}
 use Rattle.asking.specs.Asks.{turned}
 use Rattle.reporting.specs.Done.{leaving}
 use Rattle.settling.specs.Ending.{settled}
-use Rattle.demands.specs.Calls.{Call}
+use Rattle.calls.specs.Calls.{Call}
 use Rattle.demands.specs.Watching.{Watch, applies, undoes, sees}
 use Rattle.demands.specs.Watching.Item.{apply, undo}
 use Rattle.demands.proofs.Leaf.{Leaf}

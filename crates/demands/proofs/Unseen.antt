@@ -11,8 +11,10 @@ use Rattle.record.specs.Answers.{Told, said, refused}
 use Rattle.record.specs.declared.Record.{Record}
 use Rattle.record.specs.declared.Outcome.{Outcome}
 use Rattle.record.specs.declared.Outcome.the-variants as O
-use Rattle.demands.specs.Calls.{Call}
-use Rattle.demands.specs.Calls.Call.{begin, beginStructural, askStructure, askUpdate, askRollback, reportStructure, reportUpdate, reportRollback, edit, commit, recover, recoverRetained, refresh, stamp, check}
+use Rattle.calls.specs.Calls.{Call}
+use Rattle.calls.specs.Calls.Work.{structure, update, rollback}
+use Rattle.calls.specs.Calls.Report.{structured, updated, rolledBack}
+use Rattle.calls.specs.Calls.Call.{begin, ask, report, edit, commit, recover, recoverRetained, refresh, stamp, check}
 use Rattle.demands.specs.Watching.{Item, Watch, reported, sees}
 
 abbrev pub tell : ℕ → List ℕ → Record → Told
@@ -48,14 +50,13 @@ module _ (n : ℕ) (vs : List ℕ) (q : Quiet n) where
 
   quiet-unseen : (c : Call) → Unseen c n vs
   unfolding sees pick _or_
-  quiet-unseen (begin c o k) w = rw (q .done)
-  quiet-unseen (beginStructural c o k) w = rw (q .done)
-  quiet-unseen askStructure w = rw (q .ticket)
-  quiet-unseen askUpdate w = rw (q .ticket)
-  quiet-unseen askRollback w = rw (q .ticket, q .finished)
-  quiet-unseen (reportStructure t x c o) w = report-unseen _ t x w
-  quiet-unseen (reportUpdate t x) w = report-unseen _ t x w
-  quiet-unseen (reportRollback t x) w = report-unseen _ t x w
+  quiet-unseen (begin structural c o k) w = rw (q .done)
+  quiet-unseen (ask structure) w = rw (q .ticket)
+  quiet-unseen (ask update) w = rw (q .ticket)
+  quiet-unseen (ask rollback) w = rw (q .ticket, q .finished)
+  quiet-unseen (report (structured c o) t x) w = report-unseen _ t x w
+  quiet-unseen (report updated t x) w = report-unseen _ t x w
+  quiet-unseen (report rolledBack t x) w = report-unseen _ t x w
   quiet-unseen (edit c o) w = refl
   quiet-unseen commit w = rw (q .done)
   quiet-unseen (recover k) w = rw (q .done)

@@ -10,13 +10,16 @@ use Rattle.choice.proofs.Tests.{never, both, either, no-left, tests}
 use Rattle.record.specs.Answers.{refused}
 use Rattle.record.specs.declared.Record.{Record}
 use Rattle.log.specs.Log.{sound}
-use Rattle.recording.specs.Recorded.{stepWritten, callWritten}
+use Rattle.calls.specs.Calls.{AnyCall, stepOf}
+use Rattle.calls.specs.Calls.Work.{structure, update, rollback}
+use Rattle.calls.specs.Calls.Report.{structured, updated, rolledBack}
+use Rattle.calls.specs.Calls.Call.{begin, ask, report, edit, commit, recover, recoverRetained, refresh, stamp, check}
+use Rattle.calls.specs.Calls.AnyCall.{opens, calls}
+use Rattle.calls.specs.Kinds.{kindOf, kindOfAny, stepWritten, callWritten, writtenAs}
+use Rattle.recording.specs.Recorded.{withLog}
 use Rattle.demands.specs.Rows.{Row, _when_, given, among}
 use Rattle.demands.specs.Refusals.{gateRows, rows, numbersOf}
-use Rattle.demands.specs.Lending.{Lending, callOf}
-use Rattle.demands.specs.Lending.Lending.{openAt, begin, askStructure, askUpdate, askRollback, reportStructure, reportUpdate, reportRollback, commit, recover, recoverRetained, refresh}
-use Rattle.demands.specs.Logged.{kindOf, writtenAs}
-use Rattle.demands.specs.Contracts.{kind, asks, fitsThrough, inner, entered}
+use Rattle.demands.specs.Through.{asks, entered}
 use Rattle.demands.proofs.OneRow.{unlisted}
 use Rattle.demands.proofs.ExactRefusals.{exact-refusals, listed-answer}
 
@@ -56,50 +59,52 @@ neither-gate : (n : ℕ) → eqb n 4 or eqb n 5 ≡ true → (eqb 6 n ≡ false)
 neither-gate n e =
     let p : n ≤ 5 = either e (λ x. omega tests) (λ x. omega tests) in (ne-eqb 6 n (λ y. omega tests), ne-eqb 7 n (λ y. omega tests))
 
-module _ (r : Record) (log : List ℕ) where
-  abbrev number : Lending true → ℕ
-  number c = inner r log c .number
+module _ (r : Record) (log : List ℕ) (fits : Bool) where
+  abbrev number : AnyCall → ℕ
+  number c = stepOf (withLog fits log .sized) (sound log) r c .number
 
-  abbrev rowsOf : Lending true → List Row
-  rowsOf c = rows (fitsThrough log c) (sound log) r (callOf c)
+  abbrev rowsOf : AnyCall → List Row
+  rowsOf c = rows (withLog fits log .sized) (sound log) r c
 
-  abbrev Says : Lending true → Type 0
-  Says c = refused (number c) ≡ true → Noted log (kind c) (number c)
+  abbrev Says : AnyCall → Type 0
+  Says c = refused (number c) ≡ true → Noted log (kindOfAny c) (number c)
 
   -- a call that is no ask, of which no refusal is written
-  other-noted : (c : Lending true) → (refused (number c) ≡ true → writtenAs (kind c) (number c) ≡ false) → asks (kind c) ≡ false → Says c
+  other-noted : (c : AnyCall) → (refused (number c) ≡ true → writtenAs (kindOfAny c) (number c) ≡ false) → asks (kindOfAny c) ≡ false → Says c
   unfolding entered
-  other-noted c w a h = let z : entered (kind c) (number c) ≡ false = no-left _ a in record { exactly = w h ∙ sym z; clean = λ e. never (sym e ∙ z) }
+  other-noted c w a h = let z : entered (kindOfAny c) (number c) ≡ false = no-left _ a in record { exactly = w h ∙ sym z; clean = λ e. never (sym e ∙ z) }
 
   -- a report, which answers neither 4 nor 5
-  report-unwritten : (c : Lending true) → among 4 (numbersOf (callOf c)) ≡ false → among 5 (numbersOf (callOf c)) ≡ false → refused (number c) ≡ true → stepWritten (number c) ≡ false
-  unfolding inner
-  report-unwritten c p q h = refused-report (number c) _ h (listed-answer _ _ r (callOf c)) p q
+  report-unwritten : (c : AnyCall) → among 4 (numbersOf c) ≡ false → among 5 (numbersOf c) ≡ false → refused (number c) ≡ true → stepWritten (number c) ≡ false
+  report-unwritten c p q h = refused-report (number c) _ h (listed-answer _ _ r c) p q
 
   -- an ask, which answers 4 and 5 only behind the gate
-  ask-noted : (c : Lending true) {rest : List Row} → writtenAs (kind c) (number c) ≡ stepWritten (number c) → asks (kind c) ≡ true
-      → rowsOf c ≡ gateRows (fitsThrough log c) (sound log) r rest → Says c
-  unfolding inner entered _and_
+  ask-noted : (c : AnyCall) {rest : List Row} → writtenAs (kindOfAny c) (number c) ≡ stepWritten (number c) → asks (kindOfAny c) ≡ true
+      → rowsOf c ≡ gateRows (withLog fits log .sized) (sound log) r rest → Says c
+  unfolding entered _and_
   ask-noted c w a e h =
-      let g = sym (ap (λ (rs : List Row). given rs (number c)) e) ∙ sym (exact-refusals _ _ r (callOf c) (number c)) ∙ eq-eqb (number c) (number c) refl in
-      let z : entered (kind c) (number c) ≡ eqb (number c) 4 or eqb (number c) 5 = simp a in
+      let g = sym (ap (λ (rs : List Row). given rs (number c)) e) ∙ sym (exact-refusals _ _ r c (number c)) ∙ eq-eqb (number c) (number c) refl in
+      let z : entered (kindOfAny c) (number c) ≡ eqb (number c) 4 or eqb (number c) 5 = simp a in
       record {
         exactly = w ∙ refused-step (number c) h ∙ sym z;
         clean = λ f. let k = neither-gate (number c) (sym z ∙ f) in both (not-false _ (behind-gate _ _ _ (number c) g (k .0) (k .1))) .0;
       }
 
-  pub noted : (c : Lending true) → Says c
-  unfolding kindOf writtenAs callOf numbersOf among pick _and_ _or_ rows
-  noted (openAt v s a p) = other-noted (openAt v s a p) (λ h. refl) refl
-  noted (begin true c o t new old pairs) = other-noted (begin true c o t new old pairs) (refused-call _) refl
-  noted (begin false c o t new old pairs) = other-noted (begin false c o t new old pairs) (refused-call _) refl
-  noted askStructure = ask-noted askStructure refl refl refl
-  noted askUpdate = ask-noted askUpdate refl refl refl
-  noted askRollback = ask-noted askRollback refl refl refl
-  noted (reportStructure c o ticket x new old) = other-noted (reportStructure c o ticket x new old) (report-unwritten (reportStructure c o ticket x new old) refl refl) refl
-  noted (reportUpdate t ticket x payload) = other-noted (reportUpdate t ticket x payload) (report-unwritten (reportUpdate t ticket x payload) refl refl) refl
-  noted (reportRollback t ticket x payload) = other-noted (reportRollback t ticket x payload) (report-unwritten (reportRollback t ticket x payload) refl refl) refl
-  noted (commit a c) = other-noted (commit a c) (refused-call _) refl
-  noted (recover a x m) = other-noted (recover a x m) (refused-call _) refl
-  noted (recoverRetained a o x) = other-noted (recoverRetained a o x) (refused-call _) refl
-  noted (refresh a x m) = other-noted (refresh a x m) (refused-call _) refl
+  pub noted : (c : AnyCall) → Says c
+  unfolding kindOf writtenAs numbersOf among pick _and_ _or_ rows
+  noted (opens v s n) = other-noted (opens v s n) (λ h. refl) refl
+  noted (calls (begin true c o n)) = other-noted (calls (begin true c o n)) (refused-call _) refl
+  noted (calls (begin false c o n)) = other-noted (calls (begin false c o n)) (refused-call _) refl
+  noted (calls (ask structure)) = ask-noted (calls (ask structure)) refl refl refl
+  noted (calls (ask update)) = ask-noted (calls (ask update)) refl refl refl
+  noted (calls (ask rollback)) = ask-noted (calls (ask rollback)) refl refl refl
+  noted (calls (report (structured c o) t x)) = other-noted (calls (report (structured c o) t x)) (report-unwritten (calls (report (structured c o) t x)) refl refl) refl
+  noted (calls (report updated t x)) = other-noted (calls (report updated t x)) (report-unwritten (calls (report updated t x)) refl refl) refl
+  noted (calls (report rolledBack t x)) = other-noted (calls (report rolledBack t x)) (report-unwritten (calls (report rolledBack t x)) refl refl) refl
+  noted (calls (edit c o)) = other-noted (calls (edit c o)) (λ h. refl) refl
+  noted (calls commit) = other-noted (calls commit) (refused-call _) refl
+  noted (calls (recover n)) = other-noted (calls (recover n)) (refused-call _) refl
+  noted (calls recoverRetained) = other-noted (calls recoverRetained) (refused-call _) refl
+  noted (calls (refresh n)) = other-noted (calls (refresh n)) (refused-call _) refl
+  noted (calls (stamp d)) = other-noted (calls (stamp d)) (λ h. refl) refl
+  noted (calls (check d e v)) = other-noted (calls (check d e v)) (λ h. refl) refl

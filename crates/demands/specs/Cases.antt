@@ -13,8 +13,10 @@ use Rattle.record.specs.declared.Was.the-variants.{Nothing, Three}
 use Rattle.record.specs.declared.Refusal.the-variants.{Capacity, NotReady, Recovering, Damaged, Stale}
 use Rattle.staging.specs.Opening.{opening, openStep}
 use Rattle.staging.specs.Beginning.{begun}
-use Rattle.demands.specs.Calls.{Call, step}
-use Rattle.demands.specs.Calls.Call.{begin, beginStructural, askStructure, askUpdate, askRollback, reportStructure, reportUpdate, reportRollback, commit, recover, stamp, check}
+use Rattle.calls.specs.Calls.{Call, step}
+use Rattle.calls.specs.Calls.Work.{structure, update, rollback}
+use Rattle.calls.specs.Calls.Report.{structured, updated, rolledBack}
+use Rattle.calls.specs.Calls.Call.{begin, ask, report, commit, recover, stamp, check}
 
 -- a call with what it must answer, or a look at the record
 infixr 25 _⇒_
@@ -46,7 +48,7 @@ done = says (Done Nothing)
 
 -- structure work of one phase: a ticket for it, and Done
 abbrev pub phase : ℕ → ℕ → Said → List Line
-phase ticket p last = (askStructure ⇒ says (Ticket ticket p)) ∷ (reportStructure ticket O.Done 2 2 ⇒ last) ∷ []
+phase ticket p last = ((ask structure) ⇒ says (Ticket ticket p)) ∷ (report (structured 2 2) ticket O.Done ⇒ last) ∷ []
 
 -- "structural ..: More thrice, Finished": the phases 1 to 4
 abbrev pub mounted : List Line
@@ -60,39 +62,39 @@ cases =
     -- P1 opened at 7, domain 3: stamp (3, 7)
     case (openStep true 7 0 0 .state) ((stamp 3 ⇒ said 0 (3 ∷ 7 ∷ [])) ∷ [])
     -- P2 idle at the u64 maximum: begin 3
-    ∷ case (opening top 0 0) ((begin 0 0 0 ⇒ says (Refused Capacity)) ∷ [])
+    ∷ case (opening top 0 0) ((begin false 0 0 0 ⇒ says (Refused Capacity)) ∷ [])
     -- P3 staged at that revision: 7
     ∷ case (begun none 0 0 0 (opening top 0 0)) ((commit ⇒ says (Refused Damaged)) ∷ [])
     -- P4 update-only, 0 actions: commit at once
-    ∷ case (opening 0 0 3) ((begin 2 2 0 ⇒ done) ∷ (commit ⇒ says (Done (Three 3 2 0))) ∷ looks (λ r. eqb (r .revision) 1) ∷ [])
+    ∷ case (opening 0 0 3) ((begin false 2 2 0 ⇒ done) ∷ (commit ⇒ says (Done (Three 3 2 0))) ∷ looks (λ r. eqb (r .revision) 1) ∷ [])
     -- P5 the same: recover at once, revision kept
-    ∷ case (opening 0 0 3) ((begin 2 2 0 ⇒ done) ∷ (recover 4 ⇒ says (Done (Three 3 2 2))) ∷ looks (λ r. eqb (r .revision) 0) ∷ [])
+    ∷ case (opening 0 0 3) ((begin false 2 2 0 ⇒ done) ∷ (recover 4 ⇒ says (Done (Three 3 2 2))) ∷ looks (λ r. eqb (r .revision) 0) ∷ [])
     -- P6 structural, 0 actions: More thrice, Finished, ask update Finished, Adopt Finished, commit
     ∷ case (opening 0 0 3)
-    ((beginStructural 2 2 0 ⇒ done) ∷ mounted ++ (askUpdate ⇒ says Finished) ∷ phase 5 6 (says Finished) ++ (commit ⇒ says (Done (Three 3 2 0))) ∷ [])
+    ((begin true 2 2 0 ⇒ done) ∷ mounted ++ ((ask update) ⇒ says Finished) ∷ phase 5 6 (says Finished) ++ (commit ⇒ says (Done (Three 3 2 0))) ∷ [])
     -- P7 structural, 2 actions, rollback at Mount: Finished, phase 9, then More thrice, Finished
     ∷ case (opening 0 0 0)
-    ((beginStructural 2 2 2 ⇒ done) ∷ phase 1 1 (says More) ++ phase 2 2 (says More) ++ (askRollback ⇒ says Finished)
+    ((begin true 2 2 2 ⇒ done) ∷ phase 1 1 (says More) ++ phase 2 2 (says More) ++ ((ask rollback) ⇒ says Finished)
     ∷ looks (λ r. eqb (r .phase .number) recoverRemove)
     ∷ phase 3 9 (says More) ++ phase 4 10 (says More) ++ phase 5 11 (says More) ++ phase 6 12 (says Finished))
     -- P8 update-only, 3 actions, Done, Waiting, ask rollback: entries 2, ticket for number 1; Done More, Done Finished
     ∷ case (opening 0 0 0)
-    ((begin 2 2 3 ⇒ done) ∷ (askUpdate ⇒ says (Ticket 1 0)) ∷ (reportUpdate 1 O.Done ⇒ says More) ∷ (askUpdate ⇒ says (Ticket 2 1))
-    ∷ (reportUpdate 2 O.Waiting ⇒ says Waiting) ∷ (askRollback ⇒ says (Ticket 3 1)) ∷ looks (λ r. eqb (r .entries) 2)
-    ∷ (reportRollback 3 O.Done ⇒ says More) ∷ (askRollback ⇒ says (Ticket 4 0)) ∷ (reportRollback 4 O.Done ⇒ says Finished) ∷ [])
+    ((begin false 2 2 3 ⇒ done) ∷ ((ask update) ⇒ says (Ticket 1 0)) ∷ (report updated 1 O.Done ⇒ says More) ∷ ((ask update) ⇒ says (Ticket 2 1))
+    ∷ (report updated 2 O.Waiting ⇒ says Waiting) ∷ ((ask rollback) ⇒ says (Ticket 3 1)) ∷ looks (λ r. eqb (r .entries) 2)
+    ∷ (report rolledBack 3 O.Done ⇒ says More) ∷ ((ask rollback) ⇒ says (Ticket 4 0)) ∷ (report rolledBack 4 O.Done ⇒ says Finished) ∷ [])
     -- P9 serial 0, asked twice: ticket 1 Stale, 2 taken
     ∷ case (opening 0 0 0)
-    ((begin 0 0 1 ⇒ done) ∷ (askUpdate ⇒ says (Ticket 1 0)) ∷ (askUpdate ⇒ says (Ticket 2 0)) ∷ (reportUpdate 1 O.Done ⇒ says (Refused Stale))
-    ∷ (reportUpdate 2 O.Done ⇒ says Finished) ∷ [])
+    ((begin false 0 0 1 ⇒ done) ∷ ((ask update) ⇒ says (Ticket 1 0)) ∷ ((ask update) ⇒ says (Ticket 2 0)) ∷ (report updated 1 O.Done ⇒ says (Refused Stale))
+    ∷ (report updated 2 O.Done ⇒ says Finished) ∷ [])
     -- P10 ask structure: 4 in phase 5, Finished in 7
     ∷ case (opening 0 0 0)
-    ((beginStructural 2 2 0 ⇒ done) ∷ mounted ++ (askStructure ⇒ says (Refused NotReady)) ∷ (askUpdate ⇒ says Finished)
-    ∷ phase 5 6 (says Finished) ++ (askStructure ⇒ says Finished) ∷ [])
+    ((begin true 2 2 0 ⇒ done) ∷ mounted ++ ((ask structure) ⇒ says (Refused NotReady)) ∷ ((ask update) ⇒ says Finished)
+    ∷ phase 5 6 (says Finished) ++ ((ask structure) ⇒ says Finished) ∷ [])
     -- P11 idle rollback Finished, then ask update 5
-    ∷ case (opening 0 0 0) ((askRollback ⇒ says Finished) ∷ (askUpdate ⇒ says (Refused Recovering)) ∷ [])
+    ∷ case (opening 0 0 0) (((ask rollback) ⇒ says Finished) ∷ ((ask update) ⇒ says (Refused Recovering)) ∷ [])
     -- P12 stamp, update-only begin without actions, recover: the stamp passes
     ∷ case (opening 7 0 3)
-    ((stamp 3 ⇒ said 0 (3 ∷ 7 ∷ [])) ∷ (begin 2 2 0 ⇒ done) ∷ (recover 4 ⇒ says (Done (Three 3 2 2))) ∷ (check 3 3 7 ⇒ said 0 (1 ∷ [])) ∷ [])
+    ((stamp 3 ⇒ said 0 (3 ∷ 7 ∷ [])) ∷ (begin false 2 2 0 ⇒ done) ∷ (recover 4 ⇒ says (Done (Three 3 2 2))) ∷ (check 3 3 7 ⇒ said 0 (1 ∷ [])) ∷ [])
     ∷ []
 
 abbrev pub holdAll : List Case → Bool

@@ -2,7 +2,7 @@
 use mathlib.Core.List.{List, [], _∷_}
 use Rattle.record.specs.Answers.{Told, Said, said}
 use Rattle.record.specs.declared.Record.{Record}
-use Rattle.demands.specs.Calls.{Call, step}
+use Rattle.calls.specs.Calls.{Call, step}
 
 -- a call with its answer: all that a caller sees of it
 pub record Heard : Type 0 where

@@ -1,4 +1,3 @@
-pub mod Calls
 pub mod Cases
 pub mod Chains
 pub mod Watching
@@ -8,7 +7,6 @@ pub mod Starting
 pub mod Logged
 pub mod Rows
 pub mod Refusals
-pub mod Lending
-pub mod Contracts
+pub mod Through
 pub mod Marks
 pub mod Sending

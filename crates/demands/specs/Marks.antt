@@ -1,30 +1,12 @@
--- Document 01, "Status": the three calls as one type, the definition that the contract of each names, and the numbers that they answer,
--- each with its test. Assumes nothing.
+-- Document 01, "Status": the numbers that the status calls answer, each with its test. Assumes nothing.
 use Prim.Native.Nat.{ℕ}
 use mathlib.Core.Bool.{Bool, not}
 use mathlib.Core.List.{List, [], _∷_}
 use lib.Dec.{eqb, leb, ltb}
 use lib.ListN.{length, getD}
 use Rattle.choice.specs.Pick.{_and_, _or_}
-use Rattle.status.specs.Status.{Marks, live, settled, pending, linked, bytesSound, linkLeaves, initializeLeaves, cancelLeaves}
+use Rattle.status.specs.Status.{StatusCall, allowed, bytesSound}
 use Rattle.demands.specs.Rows.{Row, _when_, otherwise}
-
-pub data StatusCall : Type 0 where
-  link : (domain : Bool) → StatusCall
-  initialize cancel : StatusCall
-
--- on group bytes, status bytes and an id
-unfoldable pub marksOf : List ℕ → List ℕ → ℕ → StatusCall → Marks
-marksOf groups status id (link domain) = linkLeaves groups status id domain
-marksOf groups status id initialize = initializeLeaves groups status id
-marksOf groups status id cancel = cancelLeaves groups status id
-
--- of a group and a status byte: "unless a domain is present, live, not linked", "unless linked, live, settled, not pending" and
--- "unless linked"
-unfoldable pub allowed : StatusCall → ℕ → ℕ → Bool
-allowed (link domain) group mark = domain and live group and not (linked mark)
-allowed initialize group mark = linked mark and live group and settled group and not (pending group)
-allowed cancel group mark = linked mark
 
 -- "Ids 0 or past the end"
 abbrev pub outside : List ℕ → ℕ → Bool

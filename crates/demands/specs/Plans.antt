@@ -7,8 +7,9 @@ use lib.Dec.{eqb, ltb}
 use Rattle.choice.specs.Pick.{pick, _and_, _or_}
 use Rattle.phases.specs.Phases.{none, remove, updates, adopt, recoverRemove, hasSuccessor}
 use Rattle.record.specs.declared.Record.{Record}
-use Rattle.demands.specs.Calls.{Call}
-use Rattle.demands.specs.Calls.Call.{begin, beginStructural, askStructure, askUpdate, askRollback, reportStructure, reportUpdate, reportRollback, edit, commit, recover, recoverRetained, refresh, stamp, check}
+use Rattle.calls.specs.Calls.{Call}
+use Rattle.calls.specs.Calls.Work.{structure, update, rollback}
+use Rattle.calls.specs.Calls.Call.{begin, ask, report, edit, commit, recover, recoverRetained, refresh, stamp, check}
 use Rattle.demands.specs.Watching.{Item}
 use Rattle.demands.specs.Watching.Item.{settle, apply, undo}
 
@@ -39,14 +40,11 @@ firsts plan (suc m) = firsts plan m ++ (plan m ∷ [])
 -- "Due asking: structure in phases with a successor; update in phase 5, or phase 0 not restoring with applied < entries;
 -- rollback when restoring with entries > 0."
 unfoldable pub due : Record → Call → Bool
-due r askStructure = hasSuccessor (r .phase .number)
-due r askUpdate = eqb (r .phase .number) updates or eqb (r .phase .number) none and not (r .restoring) and ltb (r .applied) (r .entries)
-due r askRollback = r .restoring and ltb 0 (r .entries)
-due r (begin c o n) = false
-due r (beginStructural c o n) = false
-due r (reportStructure t x c o) = false
-due r (reportUpdate t x) = false
-due r (reportRollback t x) = false
+due r (ask structure) = hasSuccessor (r .phase .number)
+due r (ask update) = eqb (r .phase .number) updates or eqb (r .phase .number) none and not (r .restoring) and ltb (r .applied) (r .entries)
+due r (ask rollback) = r .restoring and ltb 0 (r .entries)
+due r (begin structural c o n) = false
+due r (report k t x) = false
 due r (edit c o) = false
 due r commit = false
 due r (recover n) = false

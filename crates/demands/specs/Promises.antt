@@ -8,8 +8,8 @@ use lib.ListN.{length}
 use Rattle.choice.specs.Pick.{_and_}
 use Rattle.record.specs.Fields.{top}
 use Rattle.record.specs.declared.Record.{Record}
-use Rattle.demands.specs.Calls.{Call, step}
-use Rattle.demands.specs.Calls.Call.{commit, recoverRetained}
+use Rattle.calls.specs.Calls.{Call, step}
+use Rattle.calls.specs.Calls.Call.{commit, recoverRetained}
 use Rattle.demands.specs.Chains.{hears}
 use Rattle.demands.specs.Watching.{Watch, performed, granted}
 use Rattle.demands.specs.Plans.{planned, planAt, plannedBack, backAt, firsts, due}

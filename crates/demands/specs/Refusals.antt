@@ -9,7 +9,8 @@ use Rattle.phases.specs.Phases.{boundary}
 use Rattle.areas.specs.Areas.{long}
 use Rattle.batch.specs.Batch.{limit}
 use Rattle.record.specs.Fields.{top}
-use Rattle.record.specs.Live.{isLive, structure, update, rollback}
+use Rattle.record.specs.Live.{isLive}
+use Rattle.record.specs.Live as Tickets
 use Rattle.record.specs.Answers.{Told}
 use Rattle.record.specs.declared.Record.{Record}
 use Rattle.record.specs.declared.Outcome.{Outcome}
@@ -17,18 +18,12 @@ use Rattle.record.specs.declared.Outcome.the-variants as O
 use Rattle.wholeness.specs.Whole.{whole, complete}
 use Rattle.staging.specs.Opening.{opening, openStep}
 use Rattle.asking.specs.Asks.{worn}
-use Rattle.demands.specs.Calls.{Call, stepWith}
-use Rattle.demands.specs.Calls.Call.{begin, beginStructural, askStructure, askUpdate, askRollback, reportStructure, reportUpdate, reportRollback, edit, commit, recover, recoverRetained, refresh, stamp, check}
+use Rattle.calls.specs.Calls.{Call, stepWith, AnyCall}
+use Rattle.calls.specs.Calls.AnyCall.{opens, calls}
+use Rattle.calls.specs.Calls.Work.{structure, update, rollback}
+use Rattle.calls.specs.Calls.Report.{structured, updated, rolledBack}
+use Rattle.calls.specs.Calls.Call.{begin, ask, report, edit, commit, recover, recoverRetained, refresh, stamp, check}
 use Rattle.demands.specs.Rows.{Row, _when_, otherwise}
-
--- every call of document 01: an opening, which is given no record, and the calls on a record
-pub data AnyCall : Type 0 where
-  opens : (revision serial accepted : ℕ) → AnyCall
-  calls : Call → AnyCall
-
-unfoldable pub stepOf : Bool → Bool → Record → AnyCall → Told
-stepOf sized sound r (opens revision serial accepted) = openStep sized revision serial accepted
-stepOf sized sound r (calls c) = stepWith sized sound r c
 
 -- the record that a refusal returns: "equal (a refused opening, which is given none, returns the one document 01 names)", which is
 -- "the record of an opening at 0, 0 with an empty payload"
@@ -69,34 +64,33 @@ reportRows outcome last = 21 when waiting outcome ∷ 22 when failed outcome ∷
 unfoldable pub rows : Bool → Bool → Record → AnyCall → List Row
 -- "Open ..: Refuses 6, 8"
 rows sized sound r (opens revision serial accepted) = 6 when not sized ∷ 8 when long accepted ∷ 0 when otherwise ∷ []
-rows sized sound r (calls (begin c o n)) = gateRows sized sound r (beginRows r c o n)
-rows sized sound r (calls (beginStructural c o n)) = gateRows sized sound r (beginRows r c o n)
+rows sized sound r (calls (begin structural c o n)) = gateRows sized sound r (beginRows r c o n)
 -- "phases 0, 5, 8 give 4; 7 and 13 give Finished; else 11, or a ticket"
-rows sized sound r (calls askStructure) =
+rows sized sound r (calls (ask structure)) =
     gateRows sized sound r
     (4 when (phaseIs 0 r or phaseIs 5 r or phaseIs 8 r) ∷ 24 when (phaseIs 7 r or phaseIs 13 r) ∷ 11 when worn r ∷ 20 when otherwise ∷ [])
 -- "phase neither 0 nor 5, or restoring, gives 5; applied = entries gives Finished ..; else 11, or a ticket"
-rows sized sound r (calls askUpdate) =
+rows sized sound r (calls (ask update)) =
     gateRows sized sound r
     (5 when (not (phaseIs 0 r or phaseIs 5 r) or r .restoring) ∷ 24 when eqb (r .applied) (r .entries) ∷ 11 when worn r ∷ 20 when otherwise ∷ [])
 -- "in phases 9 to 13 Finished .. Else 11 if attempted > 0 and the serial is at its maximum. Else .. entries = attempted .. With no
 -- entries: Finished .. Else a ticket". Finished stands twice, so 11 comes first, with the phase in its test
-rows sized sound r (calls askRollback) =
+rows sized sound r (calls (ask rollback)) =
     gateRows sized sound r
     (11 when (not (leb 9 (r .phase .number)) and (ltb 0 (r .attempted) and worn r))
     ∷ 24 when (leb 9 (r .phase .number) or eqb (r .attempted) 0)
     ∷ 20 when otherwise
     ∷ [])
 -- "Report structure (both payloads): 10, 8. Done goes to the successor .. and answers Finished at a boundary, else More."
-rows sized sound r (calls (reportStructure t x c o)) =
+rows sized sound r (calls (report (structured c o) t x)) =
     gateRows sized sound r
-    (10 when not (isLive structure t (r .live)) ∷ 8 when (long c or long o) ∷ reportRows x (boundary (r .phase .number + 1)))
+    (10 when not (isLive Tickets.structure t (r .live)) ∷ 8 when (long c or long o) ∷ reportRows x (boundary (r .phase .number + 1)))
 -- "Report update ..: 10. Done raises applied; at the last Finished, .. else More."
-rows sized sound r (calls (reportUpdate t x)) =
-    gateRows sized sound r (10 when not (isLive update t (r .live)) ∷ reportRows x (eqb (r .applied + 1) (r .entries)))
+rows sized sound r (calls (report updated t x)) =
+    gateRows sized sound r (10 when not (isLive Tickets.update t (r .live)) ∷ reportRows x (eqb (r .applied + 1) (r .entries)))
 -- "Report rollback ..: 10. Done takes that action off: entries .. fall ..; at zero Finished, .. else More."
-rows sized sound r (calls (reportRollback t x)) =
-    gateRows sized sound r (10 when not (isLive rollback t (r .live)) ∷ reportRows x (eqb (r .entries - 1) 0))
+rows sized sound r (calls (report rolledBack t x)) =
+    gateRows sized sound r (10 when not (isLive Tickets.rollback t (r .live)) ∷ reportRows x (eqb (r .entries - 1) 0))
 -- "Edit replaces both payloads: 2, 8."
 rows sized sound r (calls (edit c o)) = gateRows sized sound r (2 when not (r .staged) ∷ 8 when (long c or long o) ∷ 0 when otherwise ∷ [])
 -- "Commit: 2; 4 if not complete or phase not 0 or 7."
@@ -117,14 +111,13 @@ rows sized sound r (calls (check domain d v)) = 7 when not (whole r) ∷ 0 when 
 -- the numbers that document 01 lists for each call, as they stand in its rows
 unfoldable pub numbersOf : AnyCall → List ℕ
 numbersOf (opens revision serial accepted) = 6 ∷ 8 ∷ 0 ∷ []
-numbersOf (calls (begin c o n)) = 6 ∷ 7 ∷ 1 ∷ 3 ∷ 8 ∷ 9 ∷ 0 ∷ []
-numbersOf (calls (beginStructural c o n)) = 6 ∷ 7 ∷ 1 ∷ 3 ∷ 8 ∷ 9 ∷ 0 ∷ []
-numbersOf (calls askStructure) = 6 ∷ 7 ∷ 4 ∷ 24 ∷ 11 ∷ 20 ∷ []
-numbersOf (calls askUpdate) = 6 ∷ 7 ∷ 5 ∷ 24 ∷ 11 ∷ 20 ∷ []
-numbersOf (calls askRollback) = 6 ∷ 7 ∷ 11 ∷ 24 ∷ 20 ∷ []
-numbersOf (calls (reportStructure t x c o)) = 6 ∷ 7 ∷ 10 ∷ 8 ∷ 21 ∷ 22 ∷ 24 ∷ 23 ∷ []
-numbersOf (calls (reportUpdate t x)) = 6 ∷ 7 ∷ 10 ∷ 21 ∷ 22 ∷ 24 ∷ 23 ∷ []
-numbersOf (calls (reportRollback t x)) = 6 ∷ 7 ∷ 10 ∷ 21 ∷ 22 ∷ 24 ∷ 23 ∷ []
+numbersOf (calls (begin structural c o n)) = 6 ∷ 7 ∷ 1 ∷ 3 ∷ 8 ∷ 9 ∷ 0 ∷ []
+numbersOf (calls (ask structure)) = 6 ∷ 7 ∷ 4 ∷ 24 ∷ 11 ∷ 20 ∷ []
+numbersOf (calls (ask update)) = 6 ∷ 7 ∷ 5 ∷ 24 ∷ 11 ∷ 20 ∷ []
+numbersOf (calls (ask rollback)) = 6 ∷ 7 ∷ 11 ∷ 24 ∷ 20 ∷ []
+numbersOf (calls (report (structured c o) t x)) = 6 ∷ 7 ∷ 10 ∷ 8 ∷ 21 ∷ 22 ∷ 24 ∷ 23 ∷ []
+numbersOf (calls (report updated t x)) = 6 ∷ 7 ∷ 10 ∷ 21 ∷ 22 ∷ 24 ∷ 23 ∷ []
+numbersOf (calls (report rolledBack t x)) = 6 ∷ 7 ∷ 10 ∷ 21 ∷ 22 ∷ 24 ∷ 23 ∷ []
 numbersOf (calls (edit c o)) = 6 ∷ 7 ∷ 2 ∷ 8 ∷ 0 ∷ []
 numbersOf (calls commit) = 6 ∷ 7 ∷ 2 ∷ 4 ∷ 0 ∷ []
 numbersOf (calls (recover n)) = 6 ∷ 7 ∷ 2 ∷ 4 ∷ 8 ∷ 0 ∷ []

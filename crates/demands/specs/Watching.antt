@@ -8,8 +8,10 @@ use Rattle.choice.specs.Pick.{pick, _and_, _or_}
 use Rattle.record.specs.Answers.{Said}
 use Rattle.record.specs.declared.Outcome.{Outcome}
 use Rattle.record.specs.declared.Outcome.the-variants as O
-use Rattle.demands.specs.Calls.{Call}
-use Rattle.demands.specs.Calls.Call.{begin, beginStructural, askStructure, askUpdate, askRollback, reportStructure, reportUpdate, reportRollback, edit, commit, recover, recoverRetained, refresh, stamp, check}
+use Rattle.calls.specs.Calls.{Call}
+use Rattle.calls.specs.Calls.Work.{structure, update, rollback}
+use Rattle.calls.specs.Calls.Report.{structured, updated, rolledBack}
+use Rattle.calls.specs.Calls.Call.{begin, ask, report, edit, commit, recover, recoverRetained, refresh, stamp, check}
 use Rattle.demands.specs.Chains.{Heard}
 
 -- what a ticket is for: the structure work of a phase, an action, the undoing of an action; unknown where it is not the ticket that
@@ -151,14 +153,13 @@ abbrev pub ends : ℕ → Said → Watch → Watch
 ends commits a w = pick (performed a) (fresh commits false false 0 w) w
 
 unfoldable pub sees : Watch → Call → Said → Watch
-sees w (begin c o n) a = begins false n a w
-sees w (beginStructural c o n) a = begins true n a w
-sees w askStructure a = asked settle a w
-sees w askUpdate a = askedUpdate a w
-sees w askRollback a = askedRollback a w
-sees w (reportStructure t x c o) a = reported settles t x a w
-sees w (reportUpdate t x) a = reported applies t x a w
-sees w (reportRollback t x) a = reported undoes t x a w
+sees w (begin structural c o n) a = begins structural n a w
+sees w (ask structure) a = asked settle a w
+sees w (ask update) a = askedUpdate a w
+sees w (ask rollback) a = askedRollback a w
+sees w (report (structured c o) t x) a = reported settles t x a w
+sees w (report updated t x) a = reported applies t x a w
+sees w (report rolledBack t x) a = reported undoes t x a w
 sees w (edit c o) a = w
 sees w commit a = ends (w .commits + 1) a w
 sees w (recover n) a = ends (w .commits) a w

@@ -9,10 +9,10 @@ use super::held::fill;
 use super::held::fill_words;
 use super::held::front;
 use super::held::front_of_words;
+use record::Opening;
 use record::Outcome;
 use record::Record;
 use record::Stepped;
-use staging::Opening;
 ghost use Prim.Native.Nat.{_≤_};
 
 // The lengths and seeds of the payloads and the words that a line names, 0 where the command has none.

@@ -26,9 +26,9 @@ use super::steps::exchange;
 use super::steps::mark;
 use super::steps::report;
 use super::whole;
+use record::Opening;
 use record::Record;
 use record::Stepped;
-use staging::Opening;
 
 // The record of an opening at 0, 0 with an empty payload.
 fn first_record() -> Record {
@@ -36,7 +36,7 @@ fn first_record() -> Record {
         revision: 0,
         serial: 0,
     };
-    let opened = staging::open(true, given, 0);
+    let opened = transaction::would_open(true, given, 0);
     opened.state
 }
 

@@ -1,17 +1,19 @@
 // Ending a transaction by a commit or a recovery, and refreshing what is accepted. Areas are exchanged whole, so that what was
 // accepted is handed back.
+use record::Lent;
 use record::Record;
 use record::Stepped;
-use wholeness::Lent;
 ghost use mathlib.Core.Path.{_≡_};
 ghost use mathlib.Core.List.{_∷_, []};
 ghost use Rattle.record.specs.Answers.{tells};
 ghost use Rattle.record.specs.Leaves.{leaves};
-ghost use Rattle.ends.specs.Ends.{commitLeaves, recoverLeaves, recoverRetainedLeaves, refreshLeaves};
+ghost use Rattle.calls.specs.Lending.{leavesOf};
+ghost use Rattle.calls.specs.Lending.Lending.{commit, recover, recoverRetained, refresh};
 
 // The candidate becomes the accepted payload.
 pub fn commit(r: Record, accepted: &mut [u8], candidate: &mut [u8]) -> Stepped
-    ensures { λ s. ⌜ leaves (tells s) (now (accepted .exit) ∷ now (candidate .exit) ∷ []) ≡ commitLeaves r (now (accepted .entry)) (now (candidate .entry)) ⌝ }
+    ensures { λ s. ⌜ leaves (tells s) (now (accepted .exit) ∷ now (candidate .exit) ∷ [])
+        ≡ leavesOf r (commit (now (accepted .entry)) (now (candidate .entry))) ⌝ }
 {
     let lent = Lent {
         sized: (accepted.len() == areas::SIZE) & (candidate.len() == areas::SIZE),
@@ -28,7 +30,8 @@ pub fn commit(r: Record, accepted: &mut [u8], candidate: &mut [u8]) -> Stepped
 
 // The snapshot in the exchange area becomes the accepted payload.
 pub fn recover(r: Record, accepted: &mut [u8], exchange: &mut [u8], length: usize) -> Stepped
-    ensures { λ s. ⌜ leaves (tells s) (now (accepted .exit) ∷ now (exchange .exit) ∷ []) ≡ recoverLeaves r (now (accepted .entry)) (now (exchange .entry)) length ⌝ }
+    ensures { λ s. ⌜ leaves (tells s) (now (accepted .exit) ∷ now (exchange .exit) ∷ [])
+        ≡ leavesOf r (recover (now (accepted .entry)) (now (exchange .entry)) length) ⌝ }
 {
     let lent = Lent {
         sized: (accepted.len() == areas::SIZE) & (exchange.len() == areas::SIZE),
@@ -50,7 +53,8 @@ pub fn recover_retained(
     recovery: &[u8],
     exchange: &mut [u8],
 ) -> Stepped
-    ensures { λ s. ⌜ leaves (tells s) (now (accepted .exit) ∷ now (recovery .exit) ∷ now (exchange .exit) ∷ []) ≡ recoverRetainedLeaves r (now (accepted .entry)) (now (recovery .entry)) (now (exchange .entry)) ⌝ }
+    ensures { λ s. ⌜ leaves (tells s) (now (accepted .exit) ∷ now (recovery .exit) ∷ now (exchange .exit) ∷ [])
+        ≡ leavesOf r (recoverRetained (now (accepted .entry)) (now (recovery .entry)) (now (exchange .entry))) ⌝ }
 {
     let lent = Lent {
         sized: (accepted.len() == areas::SIZE)
@@ -70,7 +74,8 @@ pub fn recover_retained(
 
 // The snapshot in the exchange area replaces the accepted payload; no revision is made.
 pub fn refresh(r: Record, accepted: &mut [u8], exchange: &mut [u8], length: usize) -> Stepped
-    ensures { λ s. ⌜ leaves (tells s) (now (accepted .exit) ∷ now (exchange .exit) ∷ []) ≡ refreshLeaves r (now (accepted .entry)) (now (exchange .entry)) length ⌝ }
+    ensures { λ s. ⌜ leaves (tells s) (now (accepted .exit) ∷ now (exchange .exit) ∷ [])
+        ≡ leavesOf r (refresh (now (accepted .entry)) (now (exchange .entry)) length) ⌝ }
 {
     let lent = Lent {
         sized: (accepted.len() == areas::SIZE) & (exchange.len() == areas::SIZE),

@@ -1,8 +1,8 @@
 // The log's example, played through the recorder: room 3, opened at 0 and 0, update-only begin without actions, commit. It prints the
 // sixteen words of the log.
 use libc::STDOUT_FILENO;
+use record::Opening;
 use record::Record;
-use staging::Opening;
 
 fn print_words(words: &[u64]) {
     let n = words.len();

@@ -30,6 +30,7 @@ number (Structure n) = n
 number (Update n) = n
 number (Rollback n) = n
 
--- the ticket is the live one of that kind
+-- of structure, update and rollback: the ticket is the live one of that kind. Of noTicket, which no report asks for: no ticket is live
+-- and the number is 0
 unfoldable pub isLive : ℕ → ℕ → Live → Bool
 isLive of ticket l = eqb (kind l) of and eqb (number l) ticket

@@ -35,6 +35,18 @@ pub struct Record {
     pub live: Live,
 }
 
+// What an opening is given besides its payload.
+pub struct Opening {
+    pub revision: u64,
+    pub serial: u64,
+}
+
+// What was found of all that a call is lent together: that every size is right, and that what is read in it is sound.
+pub struct Lent {
+    pub sized: bool,
+    pub sound: bool,
+}
+
 // What became of the work that a ticket was given for.
 pub enum Outcome {
     Waiting,

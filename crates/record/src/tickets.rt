@@ -1,4 +1,4 @@
-// The live ticket's kind and number, and whether a ticket is the live one.
+// The live ticket's kind and number, and whether they are the ones that are given.
 use super::Live;
 ghost use mathlib.Core.Path.{_≡_};
 ghost use Rattle.record.specs.Live.{kind, number, isLive};
@@ -36,7 +36,7 @@ impl Live {
         }
     }
 
-    // Whether a ticket is the live one of a kind.
+    // Of the kinds 1 to 3, whether the ticket is the live one of that kind. Of the kind 0, whether none is live and the ticket is 0.
     pub fn is(self, of: u8, ticket: u64) -> bool
         ensures { λ b. ⌜ b ≡ isLive of ticket self ⌝ }
     {

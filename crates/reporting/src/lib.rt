@@ -5,6 +5,7 @@ mod structure;
 mod update;
 
 use record::Answer;
+use record::Lent;
 use record::Outcome;
 use record::Record;
 use record::Refusal;
@@ -13,7 +14,6 @@ pub use rollback::report_rollback;
 pub use structure::report_structure;
 pub use update::report_update;
 use wholeness::Gate;
-use wholeness::Lent;
 ghost use mathlib.Core.Path.{_≡_};
 ghost use Rattle.record.specs.Answers.{tells};
 ghost use Rattle.reporting.specs.Reports.{reportGate, reported};

@@ -2,12 +2,12 @@
 use super::report_gate;
 use super::reported;
 use record::Answer;
+use record::Lent;
 use record::Live;
 use record::Outcome;
 use record::Record;
 use record::Stepped;
 use wholeness::Gate;
-use wholeness::Lent;
 ghost use mathlib.Core.Path.{_≡_};
 ghost use Prim.Native.Nat.{_≤_};
 ghost use Rattle.batch.specs.Batch.{limit};

@@ -1,13 +1,15 @@
 // The reports, with the payloads that they store.
+use record::Lent;
 use record::Outcome;
 use record::Record;
 use record::Stepped;
-use wholeness::Lent;
 ghost use mathlib.Core.Path.{_≡_};
 ghost use mathlib.Core.List.{_∷_, []};
 ghost use Rattle.record.specs.Answers.{tells};
 ghost use Rattle.record.specs.Leaves.{leaves};
-ghost use Rattle.reports.specs.Reports.{reportStructureLeaves, reportUpdateLeaves, reportRollbackLeaves};
+ghost use Rattle.calls.specs.Lending.{leavesOf};
+ghost use Rattle.calls.specs.Lending.Lending.{report};
+ghost use Rattle.calls.specs.Lending.Stored.{structured, updated, rolledBack};
 
 // A report of structure work, with both payloads as the work has left them.
 pub fn report_structure(
@@ -19,7 +21,9 @@ pub fn report_structure(
     new: &[u8],
     old: &[u8],
 ) -> Stepped
-    ensures { λ s. ⌜ leaves (tells s) (now (candidate .exit) ∷ now (recovery .exit) ∷ []) ≡ reportStructureLeaves r (now (candidate .entry)) (now (recovery .entry)) ticket outcome (now (new .entry)) (now (old .entry)) ⌝ }
+    ensures { λ s. ⌜ leaves (tells s) (now (candidate .exit) ∷ now (recovery .exit) ∷ [])
+        ≡ leavesOf r (report (structured (now (candidate .entry)) (now (recovery .entry)) (now (new .entry)) (now (old .entry)))
+        ticket outcome) ⌝ }
 {
     let lent = Lent {
         sized: (candidate.len() == areas::SIZE) & (recovery.len() == areas::SIZE),
@@ -43,7 +47,8 @@ pub fn report_update(
     outcome: Outcome,
     payload: u64,
 ) -> Stepped
-    ensures { λ s. ⌜ leaves (tells s) (now (table .exit) ∷ []) ≡ reportUpdateLeaves r (now (table .entry)) ticket outcome payload ⌝ }
+    ensures { λ s. ⌜ leaves (tells s) (now (table .exit) ∷ [])
+        ≡ leavesOf r (report (updated (now (table .entry)) payload) ticket outcome) ⌝ }
 {
     let lent = Lent {
         sized: table.len() == batch::WORDS,
@@ -66,7 +71,8 @@ pub fn report_rollback(
     outcome: Outcome,
     payload: u64,
 ) -> Stepped
-    ensures { λ s. ⌜ leaves (tells s) (now (table .exit) ∷ []) ≡ reportRollbackLeaves r (now (table .entry)) ticket outcome payload ⌝ }
+    ensures { λ s. ⌜ leaves (tells s) (now (table .exit) ∷ [])
+        ≡ leavesOf r (report (rolledBack (now (table .entry)) payload) ticket outcome) ⌝ }
 {
     let lent = Lent {
         sized: table.len() == batch::WORDS,

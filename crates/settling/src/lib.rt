@@ -1,13 +1,13 @@
 // Ending a transaction: commit, the two recoveries; and refresh, which replaces the accepted payload while nothing is staged.
 use phases::Phase;
 use record::Answer;
+use record::Lent;
 use record::Live;
 use record::Record;
 use record::Refusal;
 use record::Stepped;
 use record::Was;
 use wholeness::Gate;
-use wholeness::Lent;
 ghost use mathlib.Core.Path.{_≡_};
 ghost use Rattle.record.specs.Answers.{tells};
 ghost use Rattle.settling.specs.Ending.{settled, unrestored, commitStep, recoverStep, recoverRetainedStep, refreshStep};

@@ -1,13 +1,13 @@
 // Beginning a transaction, and editing what is staged.
 use phases::Phase;
 use record::Answer;
+use record::Lent;
 use record::Live;
 use record::Record;
 use record::Refusal;
 use record::Stepped;
 use record::Was;
 use wholeness::Gate;
-use wholeness::Lent;
 ghost use mathlib.Core.Path.{_≡_};
 ghost use Rattle.record.specs.Answers.{tells};
 ghost use Rattle.staging.specs.Beginning.{firstPhase, begun, beginStep, editStep};

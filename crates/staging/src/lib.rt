@@ -5,9 +5,3 @@ mod opens;
 pub use begins::begin;
 pub use begins::edit;
 pub use opens::open;
-
-// What an opening is given besides its payload.
-pub struct Opening {
-    pub revision: u64,
-    pub serial: u64,
-}

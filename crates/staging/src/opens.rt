@@ -1,8 +1,8 @@
 // Opening: the first record of a chain.
-use super::Opening;
 use phases::Phase;
 use record::Answer;
 use record::Live;
+use record::Opening;
 use record::Record;
 use record::Refusal;
 use record::Stepped;

@@ -58,6 +58,11 @@ unfoldable pub put : Bool → ℕ → ℕ → List ℕ → Marks
 put allowed id mark status =
     pick (not allowed) (leavesMarks (saysMarked (M.Refused NoStatus)) status) (leavesMarks (saysMarked M.Done) (set status id mark))
 
+-- the rest of a call, by what was found at the id, when it is allowed and which byte comes next
+unfoldable pub marking : Entry → List ℕ → (ℕ → ℕ → Bool) → (ℕ → ℕ) → Marks
+marking (No why) status allowed next = leavesMarks (saysMarked (M.Refused why)) status
+marking (At id group mark) status allowed next = put (allowed group mark) id (next mark) status
+
 -- "Both set their bit alone."
 unfoldable pub withInitialized : ℕ → ℕ
 withInitialized mark = pick (eqb (mark / 4 % 2) 1) mark (mark + 4)
@@ -65,21 +70,28 @@ withInitialized mark = pick (eqb (mark / 4 % 2) 1) mark (mark + 4)
 unfoldable pub withCancelled : ℕ → ℕ
 withCancelled mark = pick (eqb (mark / 2 % 2) 1) mark (mark + 2)
 
--- the rest of a call, by what was found at the id
-unfoldable pub marking : Entry → List ℕ → (ℕ → ℕ → Bool) → (ℕ → ℕ) → Marks
-marking (No why) status allowed next = leavesMarks (saysMarked (M.Refused why)) status
-marking (At id group mark) status allowed next = put (allowed group mark) id (next mark) status
+-- the three calls, each with what it is given besides the bytes and the id
+pub data StatusCall : Type 0 where
+  link : (domain : Bool) → StatusCall
+  initialize cancel : StatusCall
 
--- "Linking: 13 unless a domain is present, live, not linked; then the status is 1."
-unfoldable pub linkLeaves : List ℕ → List ℕ → ℕ → Bool → Marks
-linkLeaves groups status id domain =
-    marking (entryOf groups status id) status (λ group mark. domain and live group and not (linked mark)) (λ mark. 1)
-
+-- whether a call is allowed, by the id's group byte and status byte
+abbrev pub allowed : StatusCall → ℕ → ℕ → Bool
+-- "Linking: 13 unless a domain is present, live, not linked"
+allowed (link domain) group mark = domain and live group and not (linked mark)
 -- "Initializing: 13 unless linked, live, settled, not pending."
-unfoldable pub initializeLeaves : List ℕ → List ℕ → ℕ → Marks
-initializeLeaves groups status id =
-    marking (entryOf groups status id) status (λ group mark. linked mark and live group and settled group and not (pending group)) withInitialized
-
+allowed initialize group mark = linked mark and live group and settled group and not (pending group)
 -- "Cancelling: 13 unless linked."
-unfoldable pub cancelLeaves : List ℕ → List ℕ → ℕ → Marks
-cancelLeaves groups status id = marking (entryOf groups status id) status (λ group mark. linked mark) withCancelled
+allowed cancel group mark = linked mark
+
+-- the id's status byte after a call that is allowed, by the one before
+abbrev pub next : StatusCall → ℕ → ℕ
+-- "then the status is 1"
+next (link domain) mark = 1
+-- "Both set their bit alone."
+next initialize mark = withInitialized mark
+next cancel mark = withCancelled mark
+
+-- what a call answers and leaves, of group bytes, status bytes and an id
+abbrev pub marksOf : List ℕ → List ℕ → ℕ → StatusCall → Marks
+marksOf groups status id c = marking (entryOf groups status id) status (allowed c) (next c)

@@ -2,7 +2,8 @@
 // 2 cancelled, 4 initialized, 8 finished). The index is the id.
 use record::Refusal;
 ghost use mathlib.Core.Path.{_≡_};
-ghost use Rattle.status.specs.Status.{entryOf, withInitialized, withCancelled, saysMarked, leavesMarks, put, linkLeaves, initializeLeaves, cancelLeaves};
+ghost use Rattle.status.specs.Status.{entryOf, withInitialized, withCancelled, saysMarked, leavesMarks, put, marksOf};
+ghost use Rattle.status.specs.Status.StatusCall.{link, initialize, cancel};
 
 // The most ids that one table holds.
 pub const MOST: usize = 256;
@@ -79,7 +80,7 @@ fn with_cancelled(mark: u8) -> u8
 
 // A live group gets its one status.
 pub fn link(groups: &[u8], status: &mut [u8], id: u64, domain: bool) -> Marked
-    ensures { λ m. ⌜ leavesMarks (saysMarked m) (now (status .exit)) ≡ linkLeaves (now (groups .entry)) (now (status .entry)) id domain ⌝ }
+    ensures { λ m. ⌜ leavesMarks (saysMarked m) (now (status .exit)) ≡ marksOf (now (groups .entry)) (now (status .entry)) id (link domain) ⌝ }
 {
     let found = look_up(groups, status, id);
     match found {
@@ -92,7 +93,7 @@ pub fn link(groups: &[u8], status: &mut [u8], id: u64, domain: bool) -> Marked
 
 // A settled group's status is initialized.
 pub fn initialize(groups: &[u8], status: &mut [u8], id: u64) -> Marked
-    ensures { λ m. ⌜ leavesMarks (saysMarked m) (now (status .exit)) ≡ initializeLeaves (now (groups .entry)) (now (status .entry)) id ⌝ }
+    ensures { λ m. ⌜ leavesMarks (saysMarked m) (now (status .exit)) ≡ marksOf (now (groups .entry)) (now (status .entry)) id initialize ⌝ }
 {
     let found = look_up(groups, status, id);
     match found {
@@ -108,7 +109,7 @@ pub fn initialize(groups: &[u8], status: &mut [u8], id: u64) -> Marked
 
 // A linked status is cancelled.
 pub fn cancel(groups: &[u8], status: &mut [u8], id: u64) -> Marked
-    ensures { λ m. ⌜ leavesMarks (saysMarked m) (now (status .exit)) ≡ cancelLeaves (now (groups .entry)) (now (status .entry)) id ⌝ }
+    ensures { λ m. ⌜ leavesMarks (saysMarked m) (now (status .exit)) ≡ marksOf (now (groups .entry)) (now (status .entry)) id cancel ⌝ }
 {
     let found = look_up(groups, status, id);
     match found {

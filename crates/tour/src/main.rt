@@ -2,10 +2,10 @@
 // is committed, and the old stamp no longer passes. Each line is a call and the number of its answer;
 // the last says 1 where the stamp passes and 0 where it does not.
 use libc::STDOUT_FILENO;
+use record::Opening;
 use record::Outcome;
 use record::Record;
 use record::Stepped;
-use staging::Opening;
 use stamping::Checked;
 use stamping::Stamping;
 

@@ -1,5 +1,6 @@
 // When a record is whole, and when it is complete; and the refusals that every call begins with.
 use phases::Phase;
+use record::Lent;
 use record::Live;
 use record::MAX;
 use record::Record;
@@ -7,12 +8,6 @@ use record::Refusal;
 ghost use mathlib.Core.Path.{_≡_};
 ghost use Rattle.wholeness.specs.Whole.{lengthsFit, countsFit, stagedFits, forwardFits, backFits, restoringFits, liveFits, whole, complete};
 ghost use Rattle.wholeness.specs.Gates.{gateOf};
-
-// What was found of all that a call is lent together: that every size is right, and that what is read in it is sound.
-pub struct Lent {
-    pub sized: bool,
-    pub sound: bool,
-}
 
 // Whether a call goes on to its own refusals.
 pub enum Gate {

@@ -2,7 +2,6 @@
 use Rattle.choice.specs.Pick.{_and_}
 use Rattle.areas.specs.Areas.{sized}
 use Rattle.batch.specs.Batch.{tableSized, paired}
-use Rattle.begins.specs.Begins.{beginLeaves}
 use Rattle.wholeness.proofs.Moves.{kept, moves, list3}
 use borrow.Author.Needs.{needs}
 use Rattle.begins.proofs.begin_in.Statement.{statement}
@@ -15,7 +14,7 @@ is-refused-requires : tie.Need-is-refused-requires
 is-refused-requires c κs = search needs
 
 returns : tie.Need-returns
-unfolding beginLeaves sized tableSized paired _and_
+unfolding sized tableSized paired _and_
 returns c = kept (c .before .before .begin .result) (c .before .before .begin .ensures) (c .before .is-refused .ensures) _ (c .if1 .taken)
 
 copy-bytes-requires : tie.Need-copy-bytes-requires
@@ -37,7 +36,7 @@ same-length-3 : tie.Need-same-length-3
 same-length-3 c = search needs
 
 returns-2 : tie.Need-returns-2
-unfolding beginLeaves sized tableSized paired _and_
+unfolding sized tableSized paired _and_
 returns-2 c =
     moves (c .before .before .before .before .before .before .before .before .before .before .before .before .before .before .begin .result) (c .before .before .before .before .before .before .before .before .before .before .before .before .before .before .begin .ensures) (c .before .before .before .before .before .before .before .before .before .before .before .before .before .is-refused .ensures) _ (c .before .before .before .before .before .before .before .before .before .before .before .before .if1 .left) (list3 (c .before .before .before .before .before .before .before .before .before .before .copy-bytes .ensures) (c .before .before .before .before .before .before .copy-bytes2 .ensures) (c .before .before .put-pairs .ensures))
 

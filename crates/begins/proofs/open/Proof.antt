@@ -3,7 +3,6 @@ use mathlib.Core.List.{List, [], _∷_}
 use mathlib.Core.Path.{ap}
 use Prim.Native.Nat.{ℕ}
 use Rattle.areas.specs.Areas.{sized}
-use Rattle.begins.specs.Opens.{openLeaves}
 use Rattle.wholeness.proofs.Moves.{kept, moves}
 use borrow.Author.Needs.{needs}
 use Rattle.begins.proofs.open.Statement.{statement}
@@ -16,7 +15,7 @@ is-refused-requires : tie.Need-is-refused-requires
 is-refused-requires c κs = search needs
 
 returns : tie.Need-returns
-unfolding openLeaves sized
+unfolding sized
 returns c = kept (c .before .before .«open» .result) (c .before .before .«open» .ensures) (c .before .is-refused .ensures) _ (c .if1 .taken)
 
 copy-bytes-requires : tie.Need-copy-bytes-requires
@@ -26,7 +25,7 @@ same-length : tie.Need-same-length
 same-length c = search needs
 
 returns-2 : tie.Need-returns-2
-unfolding openLeaves sized
+unfolding sized
 returns-2 c =
     moves (c .before .before .before .before .before .before .«open» .result) (c .before .before .before .before .before .before .«open» .ensures) (c .before .before .before .before .before .is-refused .ensures) _ (c .before .before .before .before .if1 .left) (ap (λ (l : List ℕ). l ∷ []) (c .before .before .copy-bytes .ensures))
 

@@ -3,7 +3,6 @@ use denote.Ref.{now}
 use mathlib.Core.Path.{_∙_, refl}
 use Rattle.choice.specs.Pick.{_and_}
 use Rattle.areas.specs.Areas.{sized}
-use Rattle.ends.specs.Ends.{recoverRetainedLeaves}
 use Rattle.areas.proofs.Laws.{copied-whole, same-sizes}
 use Rattle.wholeness.proofs.Moves.{kept, moves, all-sized, list3}
 use borrow.Author.Needs.{needs}
@@ -17,7 +16,7 @@ is-refused-requires : tie.Need-is-refused-requires
 is-refused-requires c κs = search needs
 
 returns : tie.Need-returns
-unfolding recoverRetainedLeaves sized _and_
+unfolding sized _and_
 returns c = kept (c .before .before .recover-retained .result) (c .before .before .recover-retained .ensures) (c .before .is-refused .ensures) _ (c .if1 .taken)
 
 copy-bytes-requires : tie.Need-copy-bytes-requires
@@ -33,7 +32,7 @@ same-length-2 : tie.Need-same-length-2
 same-length-2 c = search needs
 
 returns-2 : tie.Need-returns-2
-unfolding recoverRetainedLeaves sized _and_
+unfolding sized _and_
 returns-2 c =
     let a = now (c .before .before .before .before .before .before .before .before .before .before .before .before .before .before .before .args .accepted) in
     let o = now (c .before .before .before .before .before .before .before .before .before .before .before .before .before .before .before .args .recovery) in

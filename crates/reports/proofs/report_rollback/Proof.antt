@@ -5,7 +5,6 @@ use Prim.Native.Nat.{ℕ}
 use native.Mathlib.Omega.{arith}
 use Rattle.batch.specs.Batch.{tableSized}
 use Rattle.reporting.proofs.Admitted.{rollback-room}
-use Rattle.reports.specs.Reports.{reportRollbackLeaves}
 use Rattle.wholeness.proofs.Moves.{kept, moves, went}
 use borrow.Author.Needs.{needs}
 use Rattle.reports.proofs.report_rollback.Statement.{statement}
@@ -18,7 +17,7 @@ is-refused-requires : tie.Need-is-refused-requires
 is-refused-requires c κs = search needs
 
 returns : tie.Need-returns
-unfolding reportRollbackLeaves tableSized
+unfolding tableSized
 returns c = kept (c .before .before .report-rollback .result) (c .before .before .report-rollback .ensures) (c .before .is-refused .ensures) _ (c .if1 .taken)
 
 sub-store : tie.Need-sub-store
@@ -32,7 +31,7 @@ same-length : tie.Need-same-length
 same-length c = search needs
 
 returns-2 : tie.Need-returns-2
-unfolding reportRollbackLeaves tableSized
+unfolding tableSized
 returns-2 c =
     moves (c .before .before .before .before .before .before .before .report-rollback .result) (c .before .before .before .before .before .before .before .report-rollback .ensures) (c .before .before .before .before .before .before .is-refused .ensures) _ (c .before .before .before .before .before .if1 .left) (ap (λ (l : List ℕ). l ∷ []) (c .before .before .store .ensures))
 

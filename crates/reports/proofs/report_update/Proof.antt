@@ -3,7 +3,6 @@ use mathlib.Core.List.{List, [], _∷_}
 use mathlib.Core.Path.{ap}
 use Prim.Native.Nat.{ℕ}
 use Rattle.batch.specs.Batch.{tableSized}
-use Rattle.reports.specs.Reports.{reportUpdateLeaves}
 use Rattle.wholeness.proofs.Moves.{kept, moves}
 use borrow.Author.Needs.{needs}
 use Rattle.reports.proofs.report_update.Statement.{statement}
@@ -16,7 +15,7 @@ is-refused-requires : tie.Need-is-refused-requires
 is-refused-requires c κs = search needs
 
 returns : tie.Need-returns
-unfolding reportUpdateLeaves tableSized
+unfolding tableSized
 returns c = kept (c .before .before .report-update .result) (c .before .before .report-update .ensures) (c .before .is-refused .ensures) _ (c .if1 .taken)
 
 store-requires : tie.Need-store-requires
@@ -26,7 +25,7 @@ same-length : tie.Need-same-length
 same-length c = search needs
 
 returns-2 : tie.Need-returns-2
-unfolding reportUpdateLeaves tableSized
+unfolding tableSized
 returns-2 c =
     moves (c .before .before .before .before .before .before .report-update .result) (c .before .before .before .before .before .before .report-update .ensures) (c .before .before .before .before .before .is-refused .ensures) _ (c .before .before .before .before .if1 .left) (ap (λ (l : List ℕ). l ∷ []) (c .before .before .store .ensures))
 

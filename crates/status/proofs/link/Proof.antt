@@ -1,7 +1,6 @@
 -- `status::link` meets its contract. Assumes nothing.
 use mathlib.Core.Path.{refl}
 use Rattle.choice.specs.Pick.{_and_}
-use Rattle.status.specs.Status.{linkLeaves}
 use Rattle.status.proofs.Marking.{found-no, found-at}
 use borrow.Author.Needs.{needs}
 use Rattle.status.proofs.link.Statement.{statement}
@@ -23,14 +22,13 @@ same-length : tie.Need-same-length
 same-length c = search needs
 
 returns : tie.Need-returns
-unfolding linkLeaves
 returns c = found-no _ _ _ (c .before .before .before .look-up .ensures) (c .before .found .given .1)
 
 same-length-2 : tie.Need-same-length-2
 same-length-2 c = search needs
 
 returns-2 : tie.Need-returns-2
-unfolding linkLeaves _and_
+unfolding _and_
 returns-2 c = found-at _ _ _ (c .before .before .before .before .before .before .before .look-up .ensures) (c .before .before .before .before .before .found2 .given .1) (c .before .before .set-mark .ensures) refl
 
 pub link-spec : {M : Type 1} → statement M

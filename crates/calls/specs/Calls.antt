@@ -1,0 +1,66 @@
+-- The calls of document 01 as one type, payloads by their lengths, and one step over it. Assumes nothing.
+use Prim.Native.Nat.{ℕ}
+use mathlib.Core.Bool.{Bool, true}
+use Rattle.record.specs.Answers.{Told, told}
+use Rattle.record.specs.declared.Record.{Record}
+use Rattle.record.specs.declared.Outcome.{Outcome}
+use Rattle.staging.specs.Opening.{openStep}
+use Rattle.staging.specs.Beginning.{beginStep, editStep}
+use Rattle.asking.specs.Asks.{askStructureStep, askUpdateStep, askRollbackStep}
+use Rattle.reporting.specs.Reports.{reportStructureStep, reportUpdateStep, reportRollbackStep}
+use Rattle.settling.specs.Ending.{commitStep, recoverStep, recoverRetainedStep, refreshStep}
+use Rattle.stamping.specs.Stamping.{stampStep, checkStep}
+
+-- the kinds of work that are asked for and reported
+pub data Work : Type 0 where
+  structure update rollback : Work
+
+-- the work that a report is of, with the lengths of its payloads: "Report structure (both payloads)"; the payload of an action is one
+-- word, and decides no answer
+pub data Report : Type 0 where
+  structured : (candidate recovery : ℕ) → Report
+  updated rolledBack : Report
+
+-- the calls on a record; begin with the flag of a structural one
+pub data Call : Type 0 where
+  begin : (structural : Bool) (candidate recovery actions : ℕ) → Call
+  ask : Work → Call
+  report : Report → (ticket : ℕ) → Outcome → Call
+  edit : (candidate recovery : ℕ) → Call
+  commit : Call
+  recover : (length : ℕ) → Call
+  recoverRetained : Call
+  refresh : (length : ℕ) → Call
+  stamp : (domain : ℕ) → Call
+  check : (domain stampDomain stampRevision : ℕ) → Call
+
+-- what a call answers and leaves; the first test says whether all that it is lent has the right size, the second whether the head of
+-- the log that it goes through is sound
+abbrev pub stepWith : Bool → Bool → Record → Call → Told
+stepWith sized sound r (begin structural c o n) = beginStep sized sound structural r c o n
+stepWith sized sound r (ask structure) = askStructureStep sized sound r
+stepWith sized sound r (ask update) = askUpdateStep sized sound r
+stepWith sized sound r (ask rollback) = askRollbackStep sized sound r
+stepWith sized sound r (report (structured c o) t x) = reportStructureStep sized sound r t x c o
+stepWith sized sound r (report updated t x) = reportUpdateStep sized sound r t x
+stepWith sized sound r (report rolledBack t x) = reportRollbackStep sized sound r t x
+stepWith sized sound r (edit c o) = editStep sized sound r c o
+stepWith sized sound r commit = commitStep sized sound r
+stepWith sized sound r (recover n) = recoverStep sized sound r n
+stepWith sized sound r recoverRetained = recoverRetainedStep sized sound r
+stepWith sized sound r (refresh n) = refreshStep sized sound r n
+stepWith sized sound r (stamp domain) = told (stampStep r domain) r
+stepWith sized sound r (check domain d v) = told (checkStep r domain d v) r
+
+-- "the log aside and every area of the right size"
+abbrev pub step : Record → Call → Told
+step r c = stepWith true true r c
+
+-- every call of document 01: an opening, which is given no record and stands only at the start of a chain, and the calls on a record
+pub data AnyCall : Type 0 where
+  opens : (revision serial accepted : ℕ) → AnyCall
+  calls : Call → AnyCall
+
+abbrev pub stepOf : Bool → Bool → Record → AnyCall → Told
+stepOf sized sound r (opens revision serial accepted) = openStep sized revision serial accepted
+stepOf sized sound r (calls c) = stepWith sized sound r c

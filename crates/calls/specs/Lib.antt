@@ -1,0 +1,4 @@
+pub mod Calls
+pub mod Lending
+pub mod Kinds
+pub mod Sizes

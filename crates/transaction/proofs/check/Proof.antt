@@ -1,0 +1,15 @@
+-- `transaction::check` meets its contract: it is the check's own step, and the record is the given one. Assumes nothing.
+use mathlib.Core.Path.{ap}
+use Rattle.record.specs.Answers.{Said, told}
+use borrow.Author.Needs.{needs}
+use Rattle.transaction.proofs.check.Statement.{statement}
+use Rattle.transaction.proofs.check.Tie as tie
+
+check-requires : tie.Need-check-requires
+check-requires c κs = search needs
+
+returns : tie.Need-returns
+returns c = ap (λ (s : Said). told s (c .before .args .r)) (c .check .ensures)
+
+pub check-spec : {M : Type 1} → statement M
+check-spec = tie.close (tie.spec check-requires returns)
