@@ -3,13 +3,13 @@ use Prim.Native.Nat.{_≤_}
 use mathlib.Core.Path.{_≡_}
 use mathlib.Core.Bool.{true}
 use mathlib.Core.List.{List, [], _∷_}
-use Rattle.record.specs.Answers.{Told}
+use Rattle.record.specs.Answers.{Told, said}
 use Rattle.record.specs.Fields.{top}
 use Rattle.record.specs.declared.Record.{Record}
 use Rattle.wholeness.specs.Whole.{whole}
 use Rattle.calls.specs.Calls.{Call, step}
 use Rattle.demands.specs.Sending.{Sent, answered, afterSent, heardSent}
-use Rattle.demands.specs.Watching.{Watch, watch}
+use Rattle.demands.specs.Watching.{Watch, sees, watch}
 use Rattle.demands.proofs.Own.{own, whole-step}
 use Rattle.demands.proofs.Leaf.{Leaf}
 use Rattle.demands.proofs.Classify.{leaf}
@@ -44,9 +44,11 @@ pub record Good (w : Watch) (r : Record) : Type 0 where
   pub is-whole : Whole r
   pub tied : Tied w r
 
+-- a call keeps it so
+pub good-leaf : {w : Watch} {r : Record} {c : Call} {x : Told} → Good w r → Leaf r c x → Good (sees w c (said (x .number) (x .values))) (x .state)
+good-leaf {w} g l = record { is-whole = preserve (g .is-whole) l; tied = tie w (g .is-whole) (g .tied) l }
+
 pub good-chain : (w : Watch) (r : Record) (ss : List Sent) → Good w r → Good (watch w (heardSent r ss)) (afterSent r ss)
 unfolding watch heardSent afterSent
 good-chain w r [] g = g
-good-chain w r (s ∷ ss) g =
-    let l = sent-leaf r s in
-    good-chain _ _ ss (record { is-whole = preserve (g .is-whole) l; tied = tie w (g .is-whole) (g .tied) l })
+good-chain w r (s ∷ ss) g = good-chain _ _ ss (good-leaf g (sent-leaf r s))

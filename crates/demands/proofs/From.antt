@@ -1,5 +1,5 @@
 -- Demand 3 from any whole record, of which an opening is one case: what the watcher is told of it ties to it. Assumes nothing.
-use Prim.Native.Nat.{ℕ, _≤_}
+use Prim.Native.Nat.{ℕ, _+_, _≤_}
 use mathlib.Core.Path.{_≡_, refl}
 use mathlib.Core.Bool.{Bool, true, false}
 use mathlib.Core.List.{List}
@@ -13,11 +13,14 @@ use Rattle.record.specs.declared.Record.{Record}
 use Rattle.record.specs.declared.Live.{Live}
 use Rattle.record.specs.declared.Live.the-variants.{None, Structure, Update, Rollback}
 use Rattle.wholeness.specs.Whole.{whole}
+use Rattle.calls.specs.Calls.{Call}
 use Rattle.demands.specs.Sending.{Sent, afterSent, heardSent}
 use Rattle.demands.specs.Watching.{Watch, watch}
-use Rattle.demands.specs.Plans.{planned, plannedBack}
+use Rattle.demands.specs.Plans.{planned, plannedBack, due}
 use Rattle.demands.specs.Starting.{liveItem, doneOf, undoneOf, startedOf, watchOf}
 use Rattle.demands.specs.Promises.{revisionAfter, Forward, Backward, Asking}
+use Rattle.demands.specs.Progress.{counted, wanted, Progress, Finishes}
+use Rattle.demands.specs.Turning.{recoveredIn, UntilRecovery, Recoveries, back, untouched}
 use Rattle.demands.proofs.Facts.{Whole, Tick}
 use Rattle.demands.proofs.Reading.{whole-facts}
 use Rattle.demands.proofs.Course.{Kind, Last, Course}
@@ -28,6 +31,10 @@ use Rattle.demands.proofs.Chain.{Good, good-chain}
 use Rattle.demands.proofs.Revision.{chain-gains}
 use Rattle.demands.proofs.Exactly.{forward-law, backward-law}
 use Rattle.demands.proofs.Asking.{asking-law}
+use Rattle.demands.proofs.Progress.{progress-law}
+use Rattle.demands.proofs.Finishing.{finish-law}
+use Rattle.demands.proofs.Turning.{turned-law}
+use Rattle.demands.proofs.Recovering.{back-law, early-law}
 
 kind-of : (p : ℕ) (t : Bool) → leb 1 p ≡ t → Kind t p
 kind-of p true e = structural refl (leb-true 1 p e)
@@ -77,3 +84,23 @@ module _ (r : Record) (m : r .revision ≤ top) (h : whole r ≡ true) (ss : Lis
       (seen .turned ≡ false → length (seen .done) ≢ planned (seen .structural) (seen .size)) →
       (seen .turned ≡ true → length (seen .undone) ≢ plannedBack (seen .structural) (seen .started)) → Asking now
   never-locked-from = asking-law seen now good
+
+  -- the due asking leads on
+  pub progress-from : (c : Call) → due now c ≡ true → Progress now seen c
+  progress-from = progress-law seen now good
+
+  -- so that some asks and reports lead to the end
+  pub finishes-from : seen .running ≡ true → now .serial + wanted seen ≤ top + counted seen → Finishes now seen
+  finishes-from = finish-law seen now good
+
+  -- after a granted rollback, until a recovery is performed
+  pub until-recovery-from : (us : List Sent) → seen .running ≡ true → seen .turned ≡ true → recoveredIn (heardSent now us) ≡ false →
+      UntilRecovery seen (watch seen (heardSent now us)) (afterSent now us)
+  until-recovery-from us = turned-law seen now us good
+
+  -- both recoveries, after a granted rollback and with none granted
+  pub recovery-back-from : seen .running ≡ true → seen .turned ≡ true → Recoveries now (back seen)
+  recovery-back-from = back-law seen now good
+
+  pub recovery-early-from : seen .running ≡ true → seen .turned ≡ false → Recoveries now (untouched seen)
+  recovery-early-from = early-law seen now good

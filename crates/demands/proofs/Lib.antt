@@ -24,6 +24,14 @@ pub mod Exactly
 pub mod Granting
 pub mod OneDue
 pub mod Asking
+pub mod Picking
+pub mod Issuing
+pub mod Progress
+pub mod Rounds
+pub mod Finishing
+pub mod Turning
+pub mod Recovering
+pub mod Reopening
 pub mod Keeping
 pub mod Revision
 pub mod Running
@@ -31,6 +39,7 @@ pub mod Stamps
 pub mod Theorems
 pub mod From
 pub mod Courses
+pub mod Leading
 pub mod LoggedSteps
 pub mod LoggedChains
 pub mod LoggedWhole

@@ -18,12 +18,12 @@ use Rattle.demands.proofs.Moves.{Undo, inUndo}
 use Rattle.demands.proofs.Granting.{due-update}
 
 -- which asking is due, with what that says of the record
-data Due (r : Record) : Call → Type 0 where
+pub data Due (r : Record) : Call → Type 0 where
   settle : Apart (r .phase .number) → Due r (ask structure)
   apply : Updates (r .phase .number) → r .restoring ≡ false → Due r (ask update)
   undo : r .restoring ≡ true → 0 < r .entries → Due r (ask rollback)
 
-due-is : (r : Record) → Whole r → (c : Call) → due r c ≡ true → Due r c
+pub due-is : (r : Record) → Whole r → (c : Call) → due r c ≡ true → Due r c
 unfolding due
 due-is r w (ask structure) d = settle (apart-of _ d)
 due-is r w (ask update) d = let x = due-update w d in apply (x .0) (x .1)

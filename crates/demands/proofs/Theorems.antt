@@ -1,5 +1,5 @@
 -- Demand 3: what holds of every chain of calls, from an opening that is not refused. Assumes nothing.
-use Prim.Native.Nat.{ℕ, _≤_}
+use Prim.Native.Nat.{ℕ, _+_, _≤_}
 use mathlib.Core.Path.{_≡_, refl, ap}
 use mathlib.Core.Bool.{Bool, true, false, not}
 use mathlib.Core.List.{List}
@@ -15,10 +15,13 @@ use Rattle.record.specs.Fields.{top}
 use Rattle.record.specs.declared.Record.{Record}
 use Rattle.wholeness.specs.Whole.{whole}
 use Rattle.staging.specs.Opening.{opening, openStep}
+use Rattle.calls.specs.Calls.{Call}
 use Rattle.demands.specs.Sending.{Sent, afterSent, heardSent}
 use Rattle.demands.specs.Watching.{Watch, watch, unwatched}
-use Rattle.demands.specs.Plans.{planned, plannedBack}
+use Rattle.demands.specs.Plans.{planned, plannedBack, due}
 use Rattle.demands.specs.Promises.{revisionAfter, Forward, Backward, Asking}
+use Rattle.demands.specs.Progress.{counted, wanted, Progress, Finishes}
+use Rattle.demands.specs.Turning.{recoveredIn, UntilRecovery, Recoveries, back, untouched}
 use Rattle.demands.proofs.Facts.Stage.{flat}
 use Rattle.demands.proofs.Facts.Calm.{off}
 use Rattle.demands.proofs.Wholeness.{whole-test}
@@ -28,6 +31,10 @@ use Rattle.demands.proofs.Chain.{Good, good-chain}
 use Rattle.demands.proofs.Revision.{chain-gains}
 use Rattle.demands.proofs.Exactly.{forward-law, backward-law}
 use Rattle.demands.proofs.Asking.{asking-law}
+use Rattle.demands.proofs.Progress.{progress-law}
+use Rattle.demands.proofs.Finishing.{finish-law}
+use Rattle.demands.proofs.Turning.{turned-law}
+use Rattle.demands.proofs.Recovering.{back-law, early-law}
 
 -- of three picks, the last
 third : (b c : Bool) (x y z : Told) → x .number ≢ 0 → y .number ≢ 0 → (pick b x (pick c y z)) .number ≡ 0 → (pick b x (pick c y z) ≡ z) × (c ≡ false)
@@ -85,6 +92,26 @@ module _ (sized : Bool) (v s l : ℕ) (m : v ≤ top) (o : openStep sized v s l 
       (seen .turned ≡ false → length (seen .done) ≢ planned (seen .structural) (seen .size)) →
       (seen .turned ≡ true → length (seen .undone) ≢ plannedBack (seen .structural) (seen .started)) → Asking now
   never-locked = asking-law seen now good
+
+  -- "no count of waits, failures or refusals locks a transaction": the due asking leads on
+  pub progress : (c : Call) → due now c ≡ true → Progress now seen c
+  progress = progress-law seen now good
+
+  -- so that some asks and reports lead to the end, where the serial has room for the tickets that are left
+  pub finishes : seen .running ≡ true → now .serial + wanted seen ≤ top + counted seen → Finishes now seen
+  finishes = finish-law seen now good
+
+  -- "After its first granted rollback, with k updates started": whatever else is called, until a recovery is performed
+  pub until-recovery : (us : List Sent) → seen .running ≡ true → seen .turned ≡ true → recoveredIn (heardSent now us) ≡ false →
+      UntilRecovery seen (watch seen (heardSent now us)) (afterSent now us)
+  until-recovery us = turned-law seen now us good
+
+  -- both recoveries, after a granted rollback and with none granted
+  pub recovery-back : seen .running ≡ true → seen .turned ≡ true → Recoveries now (back seen)
+  recovery-back = back-law seen now good
+
+  pub recovery-early : seen .running ≡ true → seen .turned ≡ false → Recoveries now (untouched seen)
+  recovery-early = early-law seen now good
 
   -- the watcher knows whether something is staged, and the record is whole throughout
   pub staged-known : (seen .running ≡ now .staged) × (whole now ≡ true)

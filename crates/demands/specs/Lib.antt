@@ -3,6 +3,7 @@ pub mod Chains
 pub mod Watching
 pub mod Plans
 pub mod Promises
+pub mod Progress
 pub mod Starting
 pub mod Logged
 pub mod Rows
@@ -10,3 +11,4 @@ pub mod Refusals
 pub mod Through
 pub mod Marks
 pub mod Sending
+pub mod Turning
