@@ -1,7 +1,6 @@
 pub mod Cases
 pub mod Exhibits
 pub mod Unique
-pub mod Logbook
 pub mod Own
 pub mod Unseen
 pub mod Leaf
@@ -54,7 +53,11 @@ pub mod Refusals
 pub mod ExactRefusals
 pub mod Transaction
 pub mod SentCalls
+pub mod Holding
 pub mod Written
 pub mod Logged
 pub mod Recorder
 pub mod Marks
+pub mod HeldTheorems
+pub mod Logbook
+pub mod HandedOn

@@ -11,4 +11,6 @@ pub mod Refusals
 pub mod Through
 pub mod Marks
 pub mod Sending
+pub mod Holding
 pub mod Turning
+pub mod Whole
