@@ -17,7 +17,7 @@ use Rattle.demands.specs.Chains.{Heard, hears}
 use Rattle.demands.specs.Sending.{Sent, afterSent, heardSent}
 use Rattle.demands.specs.Watching.{Watch, watch, unwatched}
 use Rattle.demands.specs.Promises.{stampPasses}
-use Rattle.demands.specs.Whole.{DemandThree}
+use Rattle.demands.specs.DemandThree.{DemandThree}
 use Rattle.demands.specs.Holding.{Held, Doing, afterHeld, heardHeld, sentHeld}
 use Rattle.demands.proofs.Stamps.{stamp-law}
 use Rattle.demands.proofs.Theorems as T

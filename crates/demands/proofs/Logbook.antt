@@ -24,7 +24,7 @@ use Rattle.calls.specs.Lending.{Lending, unopened}
 use Rattle.calls.specs.Kinds.{kindOf, callWritten, writtenAs}
 use Rattle.recording.specs.Through.{leavesThrough}
 use Rattle.demands.specs.Watching.{watch, unwatched}
-use Rattle.demands.specs.Whole.{DemandThree}
+use Rattle.demands.specs.DemandThree.{DemandThree}
 use Rattle.demands.specs.Holding.{Held, Doing, holding, afterHeld, heardHeld}
 use Rattle.demands.specs.Holding.Given.{begin, commit}
 use Rattle.demands.specs.Holding.Doing.{records}

@@ -13,4 +13,4 @@ pub mod Marks
 pub mod Sending
 pub mod Holding
 pub mod Turning
-pub mod Whole
+pub mod DemandThree
