@@ -1,4 +1,5 @@
--- What callers use of `copied` and `exchanged`: what fits is copied, an area's whole length replaces it; and areas of the right size are of one size. Assumes nothing.
+-- What callers use of `copied` and `exchanged`: what fits is copied, an area's whole length replaces it; and areas of the right size
+-- are of one size. Assumes nothing.
 use mathlib.Core.Path.{_≡_, refl, sym, ap, _∙_}
 use mathlib.Core.List.{List, [], _∷_, _++_, append-nil}
 use Prim.Native.Nat.{ℕ, _≤_}

@@ -1,4 +1,4 @@
-// The record of a transaction: what is kept between calls, by value; and what calls answer.
+// The record of a transaction: what is kept between calls, by value; and what calls are given beside it, and answer.
 mod answers;
 mod tickets;
 
