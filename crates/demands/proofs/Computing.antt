@@ -6,8 +6,9 @@ use mathlib.Core.Bool.{Bool, true}
 use mathlib.Core.List.{List, map}
 use Rattle.choice.specs.Pick.{pick, _and_, _or_, _implies_}
 use Rattle.phases.specs.Phases.{hasSuccessor, successor, boundary}
-use Rattle.areas.specs.Areas.{long}
-use Rattle.record.specs.Answers.{Told}
+use Rattle.areas.specs.Areas.{long, sized, copied}
+use Rattle.batch.specs.Batch.{tableSized, paired, pairsIn, stored}
+use Rattle.record.specs.Answers.{Told, refused}
 use Rattle.record.specs.Live.{isLive}
 use Rattle.record.specs.Fields.{adopting}
 use Rattle.record.specs.declared.Record.{Record}
@@ -20,9 +21,15 @@ use Rattle.reporting.specs.Done.{onward, advanced, structureDone, updateDone, l
 use Rattle.reporting.specs.Reports.{behind, reportGate, reported, reportStructureOwn}
 use Rattle.settling.specs.Ending.{settled, commitOwn, unrestored, recoverOwn, recoverRetainedOwn, refreshOwn}
 use Rattle.stamping.specs.Stamping.{stampStep, passes, checkStep}
+use Rattle.log.specs.Log.{logSized, headSound, sound, full, appended, blank}
+use Rattle.events.specs.Entries.{noted}
+use Rattle.recording.specs.Recorded.{withLog, recorded}
+use Rattle.recording.specs.Through.{leavesThrough}
 use Rattle.calls.specs.Calls.{Call, step}
 use Rattle.calls.specs.Kinds.{kindOf, stepWritten, callWritten, writtenAs}
 use Rattle.demands.specs.Chains.{Heard, hears}
+use Rattle.demands.specs.Logged.{Logged, loggedStep, logged, events}
+use Rattle.demands.specs.Holding.{Held, Doing, afterHeld}
 use Rattle.demands.specs.Sending.{Sent, answered, afterSent, heardSent}
 use Rattle.demands.specs.Watching as W
 use Rattle.demands.specs.Watching.{Watch, performed, granted, sees, watch, unwatched}
@@ -50,6 +57,16 @@ known w r ss = watch w (heardSent r ss)
 unfoldable pub numbers : Record → List Sent → List ℕ
 unfolding reached heardSent
 numbers r ss = map (λ (h : Heard). h .answer .number) (heardSent r ss)
+
+-- a chain through the recorder, an opening before it, and the events of the plain one
+unfoldable pub throughLog : Record → List ℕ → List Call → Logged
+unfolding reached logSized headSound sound full appended blank sized refused withLog recorded leavesThrough noted events loggedStep logged
+throughLog r log cs = logged r log cs
+
+-- a chain of real calls
+unfoldable pub heldAfter : Held → List Doing → Held
+unfolding throughLog copied tableSized paired pairsIn stored afterHeld
+heldAfter h ds = afterHeld h ds
 
 -- from an opening at revision 7 and serial 0, with a payload of 3 bytes, which is not refused
 abbrev pub start : Record

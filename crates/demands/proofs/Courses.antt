@@ -24,7 +24,8 @@ use Rattle.demands.proofs.Theorems.{revision-law, commit-exactly, recov
 use Rattle.demands.proofs.Computing.{called, performs, grants, reached, numbers, start, opens, now, seen}
 
 -- only one asking is due: the one that is granted
-due-grants : (ss : List Sent) (c : Call) → now ss .revision ≤ top → now ss .serial ≢ top → due (now ss) c ≡ true → Asking (now ss) → grants (now ss) c ≡ true
+due-grants : (ss : List Sent) (c : Call) → now ss .revision ≤ top → now ss .serial ≢ top → due (now ss) c ≡ true → Asking (now ss)
+    → grants (now ss) c ≡ true
 unfolding now
 due-grants ss c m s d a = rw (one-due (now ss) c (a .call) m (staged-known true 7 0 3 (omega arith) opens ss .1) d (a .is-due)) (a .is-granted s)
 
@@ -32,7 +33,7 @@ due-grants ss c m s d a = rw (one-due (now ss) c (a .call) m (staged-known true 
 abbrev pub settles : ℕ → List Sent
 settles ticket = map plainly (ask structure ∷ report (structured 2 2) ticket Done ∷ [])
 
--- just begun: nothing is done yet
+-- just begun: nothing is done yet, commit is refused and the first asking granted
 abbrev pub begun : List Sent
 begun = plainly (begin true 2 2 2) ∷ []
 
@@ -63,7 +64,7 @@ unsound c = record { call = c; sized = true; sound = false; full = false }
 abbrev crowded : Call → Sent
 crowded c = record { call = c; sized = true; sound = true; full = true }
 
--- a failure, a wait, and refusals of every kind that a staged transaction meets
+-- a failure, a wait, and refusals: 6, 7 and 12 of what is lent, and then 1, 4, 5, 10 and 8
 abbrev pub rough : List Sent
 rough =
     begun ++ map plainly (ask structure ∷ report (structured 2 2) 1 (Failed 9) ∷ ask structure ∷ report (structured 2 2) 2 Waiting ∷ [])
@@ -71,8 +72,8 @@ rough =
     ∷ map plainly (begin true 2 2 2 ∷ commit ∷ ask update ∷ report (structured 2 2) 2 Done ∷ edit 2 4097 ∷ [])
 
 -- none of it counts, and the due asking is granted
-pub rough-met : (numbers start rough ≡ 0 ∷ 20 ∷ 22 ∷ 20 ∷ 21 ∷ 6 ∷ 7 ∷ 12 ∷ 1 ∷ 4 ∷ 5 ∷ 10 ∷ 8 ∷ []) × (seen rough .done ≡ []) × (performs (now rough) commit ≡ false)
-    × (grants (now rough) (ask structure) ≡ true)
+pub rough-met : (numbers start rough ≡ 0 ∷ 20 ∷ 22 ∷ 20 ∷ 21 ∷ 6 ∷ 7 ∷ 12 ∷ 1 ∷ 4 ∷ 5 ∷ 10 ∷ 8 ∷ [])
+    × (seen rough .done ≡ []) × (performs (now rough) commit ≡ false) × (grants (now rough) (ask structure) ≡ true)
 unfolding now seen numbers due
 rough-met =
     let f = commit-exactly true 7 0 3 (omega arith) opens rough refl refl in
@@ -81,10 +82,12 @@ rough-met =
 
 -- half undone: one of two undos, so that both recoveries are refused and the next undo is due
 abbrev pub back : List Sent
-back = map plainly (begin false 2 2 3 ∷ ask update ∷ report updated 1 Done ∷ ask update ∷ report updated 2 Waiting ∷ ask rollback ∷ report rolledBack 3 Done ∷ [])
+back =
+    map plainly (begin false 2 2 3 ∷ ask update ∷ report updated 1 Done ∷ ask update ∷ report updated 2 Waiting
+    ∷ ask rollback ∷ report rolledBack 3 Done ∷ [])
 
-pub back-met : (seen back .undone ≡ undo 1 ∷ []) × (performs (now back) recoverRetained ≡ false) × ((n : ℕ) → called (now back) (recover n) .number ≡ 4)
-    × (grants (now back) (ask rollback) ≡ true)
+pub back-met : (seen back .undone ≡ undo 1 ∷ []) × (performs (now back) recoverRetained ≡ false)
+    × ((n : ℕ) → called (now back) (recover n) .number ≡ 4) × (grants (now back) (ask rollback) ≡ true)
 unfolding now seen due
 back-met =
     let b = recovery-exactly true 7 0 3 (omega arith) opens back refl refl in
@@ -92,32 +95,36 @@ back-met =
     let a = never-locked true 7 0 3 (omega arith) opens back refl (λ t. never t) (λ t. eqb-ne _ _ refl) in
     (b .order, b .exact, r .given, due-grants back (ask rollback) (omega arith) (eqb-ne _ _ refl) refl a)
 
--- all undone: a structural transaction of two updates, rolled back with one started: 1 + 4 reports
+-- all undone: a structural transaction of two updates, rolled back with one started: 1 + 4 reports, and both recoveries succeed
 abbrev pub undone : List Sent
 undone =
     begun ++ settles 1 ++ settles 2 ++ settles 3 ++ settles 4
     ++ map plainly (ask update ∷ ask rollback ∷ report rolledBack 6 Done ∷ []) ++ settles 7 ++ settles 8 ++ settles 9 ++ settles 10
 
-pub undone-met : (seen undone .undone ≡ undo 0 ∷ settle 9 ∷ settle 10 ∷ settle 11 ∷ settle 12 ∷ []) × (performs (now undone) recoverRetained ≡ true) × (called (now undone) (recover 4096) .number ≡ 0) × (called (now undone) (recover 4097) .number ≡ 8)
+pub undone-met : (seen undone .undone ≡ undo 0 ∷ settle 9 ∷ settle 10 ∷ settle 11 ∷ settle 12 ∷ [])
+    × (performs (now undone) recoverRetained ≡ true) × (called (now undone) (recover 4096) .number ≡ 0) × (called (now undone) (recover 4097) .number ≡ 8)
 unfolding now seen
 undone-met =
     let b = recovery-exactly true 7 0 3 (omega arith) opens undone refl refl in
     let r = recovery-back true 7 0 3 (omega arith) opens undone refl refl in
     (b .order, b .exact, r .given 4096, r .given 4097)
 
--- an update-only transaction of two updates, ready for commit after 2 reports, with a failure; its tickets from one on
+-- an update-only transaction of two updates, ready for commit after 2 reports, with a failure; t is its first ticket
 abbrev pub updates : ℕ → List Sent
-updates t = map plainly (begin false 2 2 2 ∷ ask update ∷ report updated t (Failed 9) ∷ ask update ∷ report updated (t + 1) Done ∷ ask update ∷ report updated (t + 2) Done ∷ [])
+updates t =
+    map plainly (begin false 2 2 2 ∷ ask update ∷ report updated t (Failed 9) ∷ ask update ∷ report updated (t + 1) Done
+    ∷ ask update ∷ report updated (t + 2) Done ∷ [])
 
 pub updates-met : (seen (updates 1) .done ≡ apply 0 ∷ apply 1 ∷ []) × (performs (now (updates 1)) commit ≡ true)
 unfolding now seen
 updates-met = let f = commit-exactly true 7 0 3 (omega arith) opens (updates 1) refl refl in (f .order, f .exact)
 
--- committed, and a second one likewise: all counts start anew, and the revision is 7 plus one commit, and then two
+-- committed, and a second one like it: the counts start anew, and the revision is 7 plus one commit, and then 7 plus two
 abbrev pub again : List Sent
 again = updates 1 ++ plainly commit ∷ updates 4
 
-pub again-met : (seen again .done ≡ apply 0 ∷ apply 1 ∷ []) × (performs (now again) commit ≡ true) × (now again .revision ≡ 8) × (now (again ++ plainly commit ∷ []) .revision ≡ 9)
+pub again-met : (seen again .done ≡ apply 0 ∷ apply 1 ∷ []) × (performs (now again) commit ≡ true)
+    × (now again .revision ≡ 8) × (now (again ++ plainly commit ∷ []) .revision ≡ 9)
 unfolding now seen
 again-met =
     let f = commit-exactly true 7 0 3 (omega arith) opens again refl refl in

@@ -33,6 +33,7 @@ unfolding now seen stampPasses
 passes-met = (law [] 3, law (undone ++ plainly recoverRetained ∷ []) 3)
 
 -- no: while one is staged, after its commit, after a commit with another staged, and for another domain
-pub fails-met : (checked ahead 3 ≡ said 0 (0 ∷ [])) × (checked (ahead ++ plainly commit ∷ []) 3 ≡ said 0 (0 ∷ [])) × (checked again 3 ≡ said 0 (0 ∷ [])) × (checked [] 4 ≡ said 0 (0 ∷ []))
+pub fails-met : (checked ahead 3 ≡ said 0 (0 ∷ [])) × (checked (ahead ++ plainly commit ∷ []) 3 ≡ said 0 (0 ∷ []))
+    × (checked again 3 ≡ said 0 (0 ∷ [])) × (checked [] 4 ≡ said 0 (0 ∷ []))
 unfolding now seen stampPasses
 fails-met = (law ahead 3, law (ahead ++ plainly commit ∷ []) 3, law again 3, law [] 4)

@@ -19,7 +19,8 @@ use Rattle.demands.specs.Starting.{watchOf}
 use Rattle.demands.specs.Promises.{Asking}
 use Rattle.demands.specs.Progress.{DoneReport, Counts, Finishes}
 use Rattle.demands.specs.Turning.{recoveredIn}
-use Rattle.demands.proofs.From.{revision-from, commit-from, recovery-from, never-locked-from, progress-from, finishes-from, until-recovery-from, recovery-back-from, recovery-early-from}
+use Rattle.demands.proofs.From.{revision-from, commit-from, recovery-from, never-locked-from, progress-from, finishes-from}
+use Rattle.demands.proofs.From.{until-recovery-from, recovery-back-from, recovery-early-from}
 use Rattle.demands.proofs.Exhibits.{staged, updating}
 use Rattle.demands.proofs.Computing.{called, performs, reached, known}
 use Rattle.demands.proofs.Courses.{settles}
@@ -40,9 +41,9 @@ updating-whole = refl
 abbrev carried : List Sent
 carried = plainly (report updated 1 Done) ∷ []
 
-pub staged-met : (seen carried .done ≡ settle 1 ∷ settle 2 ∷ settle 3 ∷ settle 4 ∷ apply 0 ∷ apply 1 ∷ []) × (performs (now carried) commit ≡ false)
-    × (called (now carried) recoverRetained .number ≡ 4) × Asking (now carried) × Counts (now carried) (seen carried) (ask update) (report updated 2 Done)
-    × Finishes (now carried) (seen carried)
+pub staged-met : (seen carried .done ≡ settle 1 ∷ settle 2 ∷ settle 3 ∷ settle 4 ∷ apply 0 ∷ apply 1 ∷ [])
+    × (performs (now carried) commit ≡ false) × (called (now carried) recoverRetained .number ≡ 4) × Asking (now carried)
+    × Counts (now carried) (seen carried) (ask update) (report updated 2 Done) × Finishes (now carried) (seen carried)
 unfolding now seen due
 staged-met =
     let f = commit-from updating (omega arith) updating-whole carried refl refl in (
@@ -58,14 +59,14 @@ staged-met =
 abbrev finished : List Sent
 finished = carried ++ map plainly (ask update ∷ report updated 2 Done ∷ []) ++ settles 3
 
-pub finished-met : (seen finished .done ≡ settle 1 ∷ settle 2 ∷ settle 3 ∷ settle 4 ∷ apply 0 ∷ apply 1 ∷ apply 2 ∷ settle 6 ∷ []) × (performs (now finished) commit ≡ true)
-    × (now (finished ++ plainly commit ∷ []) .revision ≡ 8)
+pub finished-met : (seen finished .done ≡ settle 1 ∷ settle 2 ∷ settle 3 ∷ settle 4 ∷ apply 0 ∷ apply 1 ∷ apply 2 ∷ settle 6 ∷ [])
+    × (performs (now finished) commit ≡ true) × (now (finished ++ plainly commit ∷ []) .revision ≡ 8)
 unfolding now seen
 finished-met =
     let f = commit-from updating (omega arith) updating-whole finished refl refl in
     (f .order, f .exact, revision-from updating (omega arith) updating-whole (finished ++ plainly commit ∷ []))
 
--- rolled back with two started, and all undone: 2 + 4 reports
+-- rolled back with two started, and all undone: 2 + 4 reports; the way back has no commit
 abbrev turned : List Sent
 turned = plainly (ask rollback) ∷ []
 
@@ -74,8 +75,9 @@ undoing =
     map plainly (report rolledBack 2 Done ∷ ask rollback ∷ report rolledBack 3 Waiting ∷ ask rollback ∷ report rolledBack 4 Done ∷ [])
     ++ settles 5 ++ settles 6 ++ settles 7 ++ settles 8
 
-pub undoing-met : (seen (turned ++ undoing) .undone ≡ undo 1 ∷ undo 0 ∷ settle 9 ∷ settle 10 ∷ settle 11 ∷ settle 12 ∷ []) × (performs (now (turned ++ undoing)) recoverRetained ≡ true)
-    × (called (now (turned ++ undoing)) (recover 4097) .number ≡ 8) × (called (now (turned ++ undoing)) commit .number ≡ 4)
+pub undoing-met : (seen (turned ++ undoing) .undone ≡ undo 1 ∷ undo 0 ∷ settle 9 ∷ settle 10 ∷ settle 11 ∷ settle 12 ∷ [])
+    × (performs (now (turned ++ undoing)) recoverRetained ≡ true) × (called (now (turned ++ undoing)) (recover 4097) .number ≡ 8)
+    × (called (now (turned ++ undoing)) commit .number ≡ 4)
 unfolding now seen recoveredIn
 undoing-met =
     let b = recovery-from updating (omega arith) updating-whole (turned ++ undoing) refl refl in (
