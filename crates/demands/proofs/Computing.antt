@@ -29,7 +29,7 @@ use Rattle.calls.specs.Calls.{Call, step}
 use Rattle.calls.specs.Kinds.{kindOf, stepWritten, callWritten, writtenAs}
 use Rattle.demands.specs.Chains.{Heard, hears}
 use Rattle.demands.specs.Logged.{Logged, loggedStep, logged, events}
-use Rattle.demands.specs.Holding.{Held, Doing, afterHeld}
+use Rattle.demands.specs.Holding.{Held, Doing, afterHeld, heardHeld}
 use Rattle.demands.specs.Sending.{Sent, answered, afterSent, heardSent}
 use Rattle.demands.specs.Watching as W
 use Rattle.demands.specs.Watching.{Watch, performed, granted, sees, watch, unwatched}
@@ -67,6 +67,10 @@ throughLog r log cs = logged r log cs
 unfoldable pub heldAfter : Held → List Doing → Held
 unfolding throughLog copied tableSized paired pairsIn stored afterHeld
 heldAfter h ds = afterHeld h ds
+
+unfoldable pub heldSeen : Held → List Doing → Watch
+unfolding heldAfter heardHeld W.reported sees watch unwatched
+heldSeen h ds = watch unwatched (heardHeld h ds)
 
 -- from an opening at revision 7 and serial 0, with a payload of 3 bytes, which is not refused
 abbrev pub start : Record

@@ -1,5 +1,5 @@
--- Chains of calls from an opening to which the theorems over chains are applied, so that no hypothesis is met by nothing: with a wait, a
--- failure and refusals; ready for commit; being undone, and undone; and a second transaction. Assumes nothing.
+-- Chains of calls from an opening to which the theorems over chains are applied, so that no hypothesis is met by nothing: with a wait,
+-- a failure and refusals; ready for commit; being undone, and undone; and a second transaction. Assumes nothing.
 use Prim.Native.Nat.{ℕ, _+_, _≤_}
 use mathlib.Core.Path.{_≡_, refl, sym}
 use mathlib.Core.Bool.{true, false}

@@ -1,5 +1,5 @@
--- Chains to which the theorems on progress, on a granted rollback and on an early recovery are applied: no hypothesis is met by nothing.
--- Assumes nothing.
+-- Chains to which the theorems on progress, on a granted rollback and on an early recovery are applied: no hypothesis is met by
+-- nothing. Assumes nothing.
 use mathlib.Core.Path.{_≡_, refl}
 use mathlib.Core.Bool.{true, false}
 use mathlib.Core.List.{List, [], _∷_, _++_, map}

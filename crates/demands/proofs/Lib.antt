@@ -63,4 +63,5 @@ pub mod Recorder
 pub mod Marks
 pub mod HeldTheorems
 pub mod Logbook
+pub mod HeldExhibit
 pub mod HandedOn
