@@ -3,15 +3,14 @@ use Prim.Native.Nat.{ℕ}
 use mathlib.Core.Path.{_≡_, refl}
 use mathlib.Core.Bool.{Bool, true, false, _&&_}
 use mathlib.Core.List.{List, [], _∷_, map}
-use Rattle.choice.specs.Pick.{pick, _and_, _or_, _implies_}
-use Rattle.phases.specs.Phases.{hasSuccessor}
 use Rattle.record.specs.Live.{kind}
 use Rattle.record.specs.Fields.{withTicket, withPlace, withBatch, withSettings}
 use Rattle.record.specs.declared.Record.{Record}
 use Rattle.record.specs.declared.Live.{Live}
 use Rattle.record.specs.declared.Live.the-variants.{None, Structure, Update, Rollback}
-use Rattle.wholeness.specs.Whole.{lengthsFit, countsFit, stagedFits, forwardFits, backFits, restoringFits, liveFits, whole}
+use Rattle.wholeness.specs.Whole.{whole}
 use Rattle.staging.specs.Opening.{opening}
+use Rattle.demands.proofs.Computing.{called}
 
 -- a staged record at serial 1: phase, forward, back; entries, applied, attempted, restoring; the live ticket
 unfoldable pub staged : ℕ → ℕ → ℕ → ℕ → ℕ → ℕ → Bool → Live → Record
@@ -49,7 +48,7 @@ pub kinds : List Record
 kinds = opening 7 1 3 ∷ staged 1 0 0 3 0 0 false (Structure 1) ∷ staged 5 4 0 3 0 1 false (Update 1) ∷ staged 0 0 0 2 1 2 true (Rollback 1) ∷ []
 
 pub phases-whole : allWhole phases ≡ true
-unfolding phases updating staged opening whole lengthsFit countsFit stagedFits forwardFits backFits restoringFits liveFits hasSuccessor pick _and_ _or_ _implies_
+unfolding phases updating staged called
 phases-whole = refl
 
 pub phases-all : map (λ (r : Record). r .phase .number) phases ≡ 0 ∷ 1 ∷ 2 ∷ 3 ∷ 4 ∷ 5 ∷ 6 ∷ 7 ∷ 8 ∷ 9 ∷ 10 ∷ 11 ∷ 12 ∷ 13 ∷ []
@@ -57,7 +56,7 @@ unfolding phases updating staged opening
 phases-all = refl
 
 pub kinds-whole : allWhole kinds ≡ true
-unfolding kinds staged opening whole lengthsFit countsFit stagedFits forwardFits backFits restoringFits liveFits hasSuccessor pick _and_ _or_ _implies_
+unfolding kinds staged called
 kinds-whole = refl
 
 pub kinds-all : map (λ (r : Record). kind (r .live)) kinds ≡ 0 ∷ 1 ∷ 2 ∷ 3 ∷ []

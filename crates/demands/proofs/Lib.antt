@@ -37,8 +37,11 @@ pub mod Running
 pub mod Stamps
 pub mod Theorems
 pub mod From
+pub mod Computing
 pub mod Courses
 pub mod Leading
+pub mod Stamped
+pub mod Stored
 pub mod LoggedSteps
 pub mod LoggedChains
 pub mod LoggedWhole
@@ -60,4 +63,5 @@ pub mod Recorder
 pub mod Marks
 pub mod HeldTheorems
 pub mod Logbook
+pub mod HeldExhibit
 pub mod HandedOn

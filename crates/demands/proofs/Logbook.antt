@@ -6,22 +6,9 @@ use mathlib.Core.Bool.{false}
 use mathlib.Core.List.{List, [], _∷_}
 use lib.ListN.{replicate, getD}
 use native.Mathlib.Omega.{arith}
-use Rattle.choice.specs.Pick.{pick, _and_, _or_, _implies_}
-use Rattle.areas.specs.Areas.{sized, long, copied}
-use Rattle.batch.specs.Batch.{tableSized, paired, pairsIn}
-use Rattle.record.specs.Answers.{refused}
 use Rattle.record.specs.Leaves.{Leaves}
-use Rattle.wholeness.specs.Whole.{lengthsFit, countsFit, stagedFits, forwardFits, backFits, restoringFits, liveFits, whole, complete}
-use Rattle.wholeness.specs.Gates.{gateOf, gated}
-use Rattle.staging.specs.Opening.{opening, openStep}
-use Rattle.staging.specs.Beginning.{firstPhase, begun, beginOwn}
-use Rattle.settling.specs.Ending.{settled, commitOwn}
-use Rattle.phases.specs.Phases.{hasSuccessor}
-use Rattle.log.specs.Log.{logSized, headSound, sound, full, appended, blank}
-use Rattle.recording.specs.Recorded.{withLog, recorded}
 use Rattle.events.specs.Entries.{logOf}
 use Rattle.calls.specs.Lending.{Lending, unopened}
-use Rattle.calls.specs.Kinds.{kindOf, callWritten, writtenAs}
 use Rattle.recording.specs.Through.{leavesThrough}
 use Rattle.demands.specs.Watching.{watch, unwatched}
 use Rattle.demands.specs.DemandThree.{DemandThree}
@@ -29,6 +16,7 @@ use Rattle.demands.specs.Holding.{Held, Doing, holding, afterHeld, heard
 use Rattle.demands.specs.Holding.Given.{begin, commit}
 use Rattle.demands.specs.Holding.Doing.{records}
 use Rattle.demands.proofs.HeldTheorems.{held-demands-logged}
+use Rattle.demands.proofs.Computing.{heldAfter}
 
 -- an area of 4,096 bytes, a table of 128 words, and a log of 16 words with something in it
 area : List ℕ
@@ -48,10 +36,10 @@ pub calls : List Doing
 calls = records (begin false [] [] []) ∷ records commit ∷ []
 
 pub logbook : afterHeld held calls .log ≡ 2 ∷ 4 ∷ 3 ∷ 0 ∷ 1 ∷ 0 ∷ 0 ∷ 0 ∷ 9 ∷ 0 ∷ 0 ∷ 1 ∷ 0 ∷ 0 ∷ 0 ∷ 0 ∷ []
-unfolding leavesThrough kindOf writtenAs area table opened held calls afterHeld pick _and_ _or_ _implies_ sized long tableSized paired copied pairsIn refused lengthsFit countsFit stagedFits forwardFits backFits restoringFits liveFits whole complete gateOf gated opening openStep firstPhase begun beginOwn settled commitOwn hasSuccessor logSized headSound sound full appended blank withLog callWritten recorded
+unfolding area table opened held calls heldAfter
 logbook = refl
 
 -- demand 3 is applied to this chain of real calls
 pub logbook-met : DemandThree 0 (afterHeld held calls .state) (watch unwatched (heardHeld held calls))
-unfolding leavesThrough held area opened pick _and_ sized long openStep logSized withLog
+unfolding area opened held heldAfter
 logbook-met = held-demands-logged held calls 0 0 area [] (omega arith) (replicate 16 7) refl refl
