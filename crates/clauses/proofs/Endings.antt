@@ -23,6 +23,7 @@ use Rattle.demands.proofs.Own.{own}
 use Rattle.demands.proofs.Reading.{whole-facts}
 use Rattle.demands.proofs.Testing.{ranges}
 use Rattle.demands.proofs.Granting.{clash}
+use Rattle.demands.proofs.Reopening.{after-commit-opens}
 use Rattle.clauses.specs.Keeping.{gained}
 use Rattle.clauses.specs.Ending.{CanCommit, CommitClauses, CanRecover, RecoverClauses}
 use Rattle.clauses.proofs.Splitting.{Kept, refusal-real, performed-fine, by, on-step}
@@ -70,6 +71,7 @@ module _ (r : Record) (m : r .revision ≤ top) (w : whole r ≡ true) where
           c196 = refl;
           c197 = refl;
           c200 = all-applied r (not-false _ (x .0));
+          c189-record = after-commit-opens _ _ r;
         };
       })))
 
@@ -95,7 +97,7 @@ module _ (r : Record) (m : r .revision ≤ top) (w : whole r ≡ true) where
       c204 = (λ i. record { staged = not-false _ e₁; empty = omega (tests, x .0); place = q; fits = h }, λ y. refl);
       c205 = performed-fine;
       error = performed-fine;
-      ok = λ i. record { c207 = λ z. let y = the-other _ _ q z in omega (arith, ranges (whole-facts r m w .stage) .behind .late (omega arith)); c208 = refl; c209 = refl; c210 = refl };
+      ok = λ i. record { c207 = λ z. let y = the-other _ _ q z in omega (arith, ranges (whole-facts r m w .stage) .behind .late (omega arith)); c208 = refl; c209 = refl; c210 = refl; c202-record = after-commit-opens _ _ r };
     }
 
     -- 2, and then 4

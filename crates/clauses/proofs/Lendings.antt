@@ -19,10 +19,10 @@ use Rattle.record.specs.declared.Outcome.{Outcome}
 use Rattle.record.specs.declared.Refusal.the-variants.{BadArea}
 use Rattle.wholeness.specs.Gates.{gateOf, gated}
 use Rattle.reporting.specs.Reports.{behind, reportGate}
-use Rattle.calls.specs.Calls.{stepOf, Call, stepWith, step}
+use Rattle.calls.specs.Calls.{Call, stepWith, step}
 use Rattle.calls.specs.Calls.Report.{structured, updated, rolledBack}
 use Rattle.calls.specs.Calls.Call.{begin, report, edit, commit, recover, recoverRetained, refresh}
-use Rattle.calls.specs.Lending.{Stored, Lending, lent, moved, leavesOf}
+use Rattle.calls.specs.Lending.{Stored, Lending, leavesOf}
 use Rattle.clauses.specs.Lending.{payload, Lends, ReadBack}
 
 -- a call by its test of the sizes, which is refused 6 where it fails

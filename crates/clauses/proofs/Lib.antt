@@ -18,6 +18,9 @@ pub mod Recorder
 pub mod Openings
 pub mod Statuses
 pub mod Successes
+pub mod Snapshots
+pub mod Listing
+pub mod Stages
 pub mod Outcomes
 pub mod Carried
 pub mod Rejected

@@ -18,15 +18,15 @@ use Rattle.settling.specs.Ending.{settled}
 use Rattle.log.specs.Log.{logSized, roomOf, blank}
 use Rattle.recording.specs.Recorded.{withLog}
 use Rattle.calls.specs.Lending.{Lending, leavesOf, unopened}
-use Rattle.calls.specs.Kinds.{kindOf, writtenAs}
 use Rattle.recording.specs.Through.{leavesThrough}
 use Rattle.demands.proofs.Wholeness.{whole-test}
 use Rattle.demands.proofs.Advancing.{idles}
 use Rattle.demands.proofs.Granting.{clash}
+use Rattle.demands.proofs.Picking.{picked}
 use Rattle.clauses.specs.Staging.{OpenClauses}
 use Rattle.clauses.specs.Lending.{Opens}
 use Rattle.clauses.specs.Recording.{OpenRecorded}
-use Rattle.clauses.proofs.Splitting.{performed-real, split}
+use Rattle.clauses.proofs.Splitting.{performed-real}
 use Rattle.clauses.proofs.Lendings.{payload-copied}
 
 -- an opening is whole
@@ -34,25 +34,27 @@ opening-whole : (v s l : ℕ) → v ≤ top → l ≤ areaSize → whole (openin
 unfolding opening settled
 opening-whole v s l m h = whole-test (idles v l (opening v s l) m h)
 
-pub open-clauses : (sizes : Bool) (v s l : ℕ) → v ≤ top → OpenClauses sizes v l (openStep sizes v s l)
+pub open-clauses : (sizes : Bool) (v s l : ℕ) → v ≤ top → OpenClauses sizes v s l (openStep sizes v s l)
 unfolding openStep opening long
 open-clauses sizes v s l m =
     let bad = opening-whole 0 0 0 (omega arith) (omega arith) in
-    split (OpenClauses sizes v l) _ (λ e. record {
+    picked (OpenClauses sizes v s l) _ (λ e. record {
       fits = (λ i. absurd (omega arith), λ x. clash _ (x .0) (not-true _ e));
       c107 = bad;
       c108 = λ i. absurd (omega arith);
       c109 = λ i. absurd (omega arith);
       c110 = refl;
       c111 = refl;
+      c111-record = λ i. absurd (omega arith);
     }) (λ e₁.
-    split (OpenClauses sizes v l) _ (λ e. record {
+    picked (OpenClauses sizes v s l) _ (λ e. record {
       fits = (λ i. absurd (omega arith), λ x. absurd (omega (tests, x .1)));
       c107 = bad;
       c108 = λ i. absurd (omega arith);
       c109 = λ i. absurd (omega arith);
       c110 = refl;
       c111 = refl;
+      c111-record = λ i. absurd (omega arith);
     }) (λ e₂. record {
       fits = (λ i. (not-false _ e₁, ltb-false _ _ e₂), λ x. refl);
       c107 = opening-whole v s l m (ltb-false _ _ e₂);
@@ -60,6 +62,7 @@ open-clauses sizes v s l m =
       c109 = λ i. refl;
       c110 = refl;
       c111 = refl;
+      c111-record = λ i. refl;
     }))
 
 -- what an opening that is not refused moves

@@ -17,13 +17,13 @@ use Rattle.record.proofs.Saying.{refused-number}
 use Rattle.wholeness.specs.Whole.{whole}
 use Rattle.log.specs.Log.{sound, appended}
 use Rattle.recording.specs.Recorded.{withLog, recorded}
-use Rattle.calls.specs.Calls.{Call, stepWith, step}
+use Rattle.calls.specs.Calls.{Call, stepWith}
 use Rattle.calls.specs.Kinds.{callWritten}
 use Rattle.demands.proofs.Unseen.{quiet}
 use Rattle.demands.proofs.Testing.{not-yes}
 use Rattle.demands.proofs.Granting.{clash}
+use Rattle.demands.proofs.Picking.{picked}
 use Rattle.clauses.specs.Recording.{unlogged, Recorded, Through}
-use Rattle.clauses.proofs.Splitting.{split}
 use Rattle.clauses.proofs.Refusals.{refused-equal}
 
 -- any step that a refusal leaves as it was
@@ -31,7 +31,7 @@ pub records : (written : ℕ → Bool) (kind : ℕ) (t : Told) (r : Record) (log
     Recorded written kind r log lent (moving t lent moved) (recorded written kind t r log lent moved)
 unfolding recorded appended
 records written kind t r log lent moved f =
-    split (Recorded written kind r log lent (moving t lent moved)) _ (λ e. record {
+    picked (Recorded written kind r log lent (moving t lent moved)) _ (λ e. record {
       c264 = λ n. refl;
       no-room = λ i. clash _ i (not-true _ e);
       c267 = λ i. clash _ i (not-true _ e);
@@ -39,7 +39,7 @@ records written kind t r log lent moved f =
       c305 = λ i. (f i, sym (yes _ i refl));
       c305-log = λ i. refl;
     }) (λ e₁.
-    split (Recorded written kind r log lent (moving t lent moved)) _ (λ e. record {
+    picked (Recorded written kind r log lent (moving t lent moved)) _ (λ e. record {
       c264 = λ n. absurd (n refl);
       no-room = λ i j. refl;
       c267 = λ i j. clash _ e j;

@@ -21,7 +21,8 @@ use Rattle.calls.specs.Calls.Work.{structure, update, rollback}
 use Rattle.calls.specs.Calls.Report.{structured, updated, rolledBack}
 use Rattle.calls.specs.Calls.Call.{begin, ask, report, edit, commit, recover, recoverRetained, refresh, stamp, check}
 use Rattle.demands.proofs.Own.{own, whole-step, damaged-step}
-use Rattle.clauses.proofs.Splitting.{performed-fine, split}
+use Rattle.demands.proofs.Picking.{picked}
+use Rattle.clauses.proofs.Splitting.{performed-fine}
 
 -- a number over 13 is no refusal
 fine : {P : Type 0} (n : ℕ) → ltb 13 n ≡ true → refused n ≡ true → P
@@ -34,7 +35,7 @@ module _ (r : Record) where
 
   -- a test
   one : (x y : Told) (b : Bool) → Equal x → Equal y → Equal (pick b x y)
-  one x y b p q = split Equal b (λ e. p) (λ e. q)
+  one x y b p q = picked Equal b (λ e. p) (λ e. q)
 
   taken : (x : Outcome) (s : Record) (t : Told) → Equal t → Equal (reported x s t)
   unfolding reported

@@ -1,6 +1,6 @@
 -- How a clause is shown of a step: on a whole record it is the call's own, whose tests are split one by one. Assumes nothing.
 use Prim.Native.Nat.{ℕ, _≤_}
-use mathlib.Core.Path.{_≡_, refl, sym}
+use mathlib.Core.Path.{_≡_, sym}
 use mathlib.Core.Bool.{Bool, true, false}
 use mathlib.Core.Logic.{_≢_}
 use lib.Dec.{ltb}
@@ -17,6 +17,7 @@ use Rattle.wholeness.specs.Whole.{whole}
 use Rattle.calls.specs.Calls.{Call, step}
 use Rattle.demands.proofs.Own.{own, whole-step}
 use Rattle.demands.proofs.Unseen.{quiet}
+use Rattle.demands.proofs.Picking.{picked}
 use Rattle.demands.proofs.Chain.{whole-kept}
 
 -- a test that does not hold
@@ -49,15 +50,9 @@ fitting c o e = let x = neither e in (ltb-false _ _ (x .0), ltb-false _ _ (x .1)
 abbrev pub Kept : (Told → Type 0) → Told → Type 0
 Kept P t = whole (t .state) ≡ true → P t
 
--- one test of a definition
-pub split : {A : Type 0} (P : A → Type 0) {x y : A} (b : Bool) → (b ≡ true → P x) → (b ≡ false → P y) → P (pick b x y)
-unfolding pick
-split P true f g = f refl
-split P false f g = g refl
-
--- and of a step
+-- one test of a step
 pub by : (P : Told → Type 0) {x y : Told} (b : Bool) → (b ≡ true → Kept P x) → (b ≡ false → Kept P y) → Kept P (pick b x y)
-by P b f g = split (Kept P) b f g
+by P b f g = picked (Kept P) b f g
 
 -- the revision is a u64
 pub on-step : (P : Told → Type 0) (r : Record) (c : Call) → r .revision ≤ top → whole r ≡ true → Kept P (own r c) → P (step r c)

@@ -9,12 +9,12 @@ use Rattle.choice.proofs.Picks.{yes, no}
 use Rattle.choice.proofs.Tests.{tests, never, eqb-ne}
 use Rattle.phases.specs.Phases.{none, remove}
 use Rattle.record.specs.Answers.{Told, refusalNumber, answer, refuse}
-use Rattle.record.specs.Fields.{top}
+use Rattle.record.specs.Fields.{top, withLengths}
 use Rattle.record.specs.declared.Record.{Record}
 use Rattle.record.specs.declared.Answer.the-variants.{Done}
 use Rattle.record.specs.declared.Was.the-variants.{Nothing}
 use Rattle.record.specs.declared.Refusal.{Refusal}
-use Rattle.record.specs.declared.Refusal.the-variants.{Pending, Capacity, TooLong, TooMany}
+use Rattle.record.specs.declared.Refusal.the-variants.{Pending, Idle, Capacity, TooLong, TooMany}
 use Rattle.wholeness.specs.Whole.{whole}
 use Rattle.staging.specs.Beginning.{firstPhase, begun, beginOwn, editOwn}
 use Rattle.calls.specs.Calls.{step}
@@ -22,7 +22,7 @@ use Rattle.calls.specs.Calls.Call.{begin, edit}
 use Rattle.demands.proofs.Own.{own}
 use Rattle.demands.proofs.Classify.{first, first-structural}
 use Rattle.demands.proofs.Granting.{clash}
-use Rattle.clauses.specs.Keeping.{gained, SameBatch, Framed}
+use Rattle.clauses.specs.Keeping.{gained}
 use Rattle.clauses.specs.Staging.{CanBegin, BeginClauses, EditClauses}
 use Rattle.clauses.proofs.Splitting.{Kept, refusal-real, performed-fine, too-long, fitting, by, on-step}
 
@@ -72,13 +72,32 @@ module _ (r : Record) (c o : ℕ) where
   abbrev Edits : Told → Type 0
   Edits = EditClauses r c o
 
-  edits : {t : Told} → Framed r t × SameBatch r (t .state) × (t .state .phase ≡ r .phase) × (t .state .forward ≡ r .forward) × (t .state .back ≡ r .back) →
-      (t .number ≡ 0 → (t .state .candidate ≡ c) × (t .state .recovery ≡ o)) → (t .number ≡ 2 → r .staged ≡ false) → (t .number ≡ 2 → t .state .staged ≡ false) → Edits t
-  edits x f g h = record { framed = x .0; c124 = x .1; phase = x .2; forward = x .3; back = x .4; c128 = f; c129 = g; c130 = h }
+  -- a refusal by its number, and the edit itself
+  stays : (why : Refusal) → (refusalNumber why ≡ 2 → r .staged ≡ false) → Kept Edits (refuse why r)
+  stays why f k = record {
+    framed = search;
+    c124 = search;
+    c123-record = λ i. absurd (refusal-real why i);
+    c123-refused = λ i. refl;
+    c128 = λ i. absurd (refusal-real why i);
+    c129 = f;
+    c130 = f;
+  }
+
+  stores : Kept Edits (answer (Done Nothing) (withLengths (r .accepted) c o r))
+  stores k = record {
+    framed = search;
+    c124 = search;
+    c123-record = λ i. refl;
+    c123-refused = performed-fine;
+    c128 = λ i. (refl, refl);
+    c129 = λ i. absurd (omega arith);
+    c130 = λ i. absurd (omega arith);
+  }
 
   pub edit-clauses : r .revision ≤ top → whole r ≡ true → Edits (step r (edit c o))
   unfolding own editOwn
   edit-clauses m w = on-step Edits r (edit c o) m w
-      (by Edits _ (λ e k. edits (search) (λ i. absurd (omega arith)) (λ i. not-true _ e) (λ i. not-true _ e)) (λ e₁.
-      by Edits _ (λ e k. edits (search) (λ i. absurd (omega arith)) (λ i. absurd (omega arith)) (λ i. absurd (omega arith)))
-      (λ e₂ k. edits (search) (λ i. (refl, refl)) (λ i. absurd (omega arith)) (λ i. absurd (omega arith)))))
+      (by Edits _ (λ e. stays Idle (λ i. not-true _ e)) (λ e₁.
+      by Edits _ (λ e. stays TooLong (λ i. absurd (omega arith)))
+      (λ e₂. stores)))

@@ -18,8 +18,9 @@ use Rattle.status.specs.declared.Entry.{Entry}
 use Rattle.status.specs.declared.Entry.the-variants.{At, No}
 use Rattle.demands.proofs.Testing.{right}
 use Rattle.demands.proofs.Granting.{clash}
+use Rattle.demands.proofs.Picking.{picked}
 use Rattle.clauses.specs.Status.{Place, MarkClauses, Initializes, Cancels}
-use Rattle.clauses.proofs.Splitting.{refusal-real, split}
+use Rattle.clauses.proofs.Splitting.{refusal-real}
 
 module _ (groups status : List ℕ) (id : ℕ) where
   -- what is found at the id
@@ -30,9 +31,9 @@ module _ (groups status : List ℕ) (id : ℕ) where
   found : Found (entryOf groups status id)
   unfolding entryOf
   found =
-      split Found _ (λ e. none _ (λ x. clash _ (eq-eqb _ _ (x .same)) (not-true _ e))) (λ e₁. split Found _ (λ e. none _ (λ x. omega (tests, x .some))) (λ e₂.
-      split Found _ (λ e. none _ (λ x. omega (tests, x .few))) (λ e₃. split Found _ (λ e. none _ (λ x. omega (tests, x .real))) (λ e₄.
-      split Found _ (λ e. none _ (λ x. omega (tests, x .inside))) (λ e₅. split Found _ (λ e. there (record {
+      picked Found _ (λ e. none _ (λ x. clash _ (eq-eqb _ _ (x .same)) (not-true _ e))) (λ e₁. picked Found _ (λ e. none _ (λ x. omega (tests, x .some))) (λ e₂.
+      picked Found _ (λ e. none _ (λ x. omega (tests, x .few))) (λ e₃. picked Found _ (λ e. none _ (λ x. omega (tests, x .real))) (λ e₄.
+      picked Found _ (λ e. none _ (λ x. omega (tests, x .inside))) (λ e₅. picked Found _ (λ e. there (record {
         same = eqb-true _ _ (not-false _ e₁);
         some = ltb-false _ _ e₂;
         few = ltb-false _ _ e₃;
@@ -53,7 +54,7 @@ module _ (groups status : List ℕ) (id : ℕ) where
       c408 = λ i. refl;
     }
     marks (there p) =
-        split Clauses _ (λ e. record {
+        picked Clauses _ (λ e. record {
           c400 = (λ i. absurd (omega arith), λ x. clash _ (x .1) (not-true _ e));
           c407 = λ i. absurd (omega arith);
           c408 = λ i. refl;
@@ -73,11 +74,11 @@ module _ (groups status : List ℕ) (id : ℕ) where
 -- each flag is set alone
 pub initialized-alone : (mark : ℕ) → Initializes mark (withInitialized mark)
 unfolding withInitialized
-initialized-alone mark = split (Initializes mark) _ (λ (e : eqb (mark / 4 % 2) 1 ≡ true). omega tests) (λ (e : eqb (mark / 4 % 2) 1 ≡ false). omega tests)
+initialized-alone mark = picked (Initializes mark) _ (λ (e : eqb (mark / 4 % 2) 1 ≡ true). omega tests) (λ (e : eqb (mark / 4 % 2) 1 ≡ false). omega tests)
 
 pub cancelled-alone : (mark : ℕ) → Cancels mark (withCancelled mark)
 unfolding withCancelled
-cancelled-alone mark = split (Cancels mark) _ (λ (e : eqb (mark / 2 % 2) 1 ≡ true). omega tests) (λ (e : eqb (mark / 2 % 2) 1 ≡ false).
+cancelled-alone mark = picked (Cancels mark) _ (λ (e : eqb (mark / 2 % 2) 1 ≡ true). omega tests) (λ (e : eqb (mark / 2 % 2) 1 ≡ false).
     let h : (mark + 2) / 4 ≡ mark / 4 = omega tests in
     record { linked = omega tests; c388 = omega tests; initialized = ap (λ (k : ℕ). k % 2) h; finished = omega tests })
 

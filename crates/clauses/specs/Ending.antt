@@ -12,6 +12,7 @@ use Rattle.phases.specs.Phases.{none, ready, recovered}
 use Rattle.record.specs.Answers.{Told, refused}
 use Rattle.record.specs.declared.Record.{Record}
 use Rattle.wholeness.specs.Whole.{whole, complete}
+use Rattle.staging.specs.Opening.{opening}
 use Rattle.clauses.specs.Keeping.{gained, SameStaged, SameBatch}
 
 -- staged, the batch complete, and the phase none or `Ready`
@@ -32,6 +33,8 @@ pub record Committed (r : Record) (t : Told) : Type 0 where
   pub c197 : t .values ≡ r .accepted ∷ r .recovery ∷ r .entries ∷ []
   -- as many applied as entries
   pub c200 : r .applied ≡ r .entries
+  -- stronger: the whole record, that of an opening with the serial kept
+  pub c189-record : t .state ≡ opening (r .revision + 1) (r .serial) (r .candidate)
 
 pub record CommitClauses (r : Record) (t : Told) : Type 0 where
   -- `new.wf()`
@@ -61,6 +64,8 @@ pub record Recovered (r : Record) (n : ℕ) (t : Told) : Type 0 where
   pub c209 : t .state .staged ≡ false
   -- the answer has the lengths of the old accepted, candidate and recovery payloads (also C211, C219, C220)
   pub c210 : t .values ≡ r .accepted ∷ r .candidate ∷ r .recovery ∷ []
+  -- stronger: the whole record, as after a commit but for the revision (also C214)
+  pub c202-record : t .state ≡ opening (r .revision) (r .serial) n
 
 -- `recover` with a payload of length n, and `recover_with`, whose n is the retained one's
 pub record RecoverClauses (r : Record) (n : ℕ) (t : Told) : Type 0 where

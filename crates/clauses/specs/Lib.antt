@@ -9,3 +9,4 @@ pub mod Tables
 pub mod Recording
 pub mod Status
 pub mod Successes
+pub mod Chains

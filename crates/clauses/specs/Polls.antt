@@ -48,6 +48,8 @@ pub record RollbackClauses (r : Record) (t : Told) : Type 0 where
   pub c105 : t .number ≡ 24 → t .state .entries ≡ 0
   -- `Pending` or `Ready(Err(_))` implies that it has entries
   pub c106 : unfinished (t .number) ≡ true → 0 < t .state .entries
+  -- stronger: and so does `Ready(Ok(false))`, so that Finished is given exactly where the last action is off
+  pub c100-more : t .number ≡ 23 → 0 < t .state .entries
 
 -- C80, C81, C239, C240: a report by its outcome, of the kind of ticket that it takes: `tells` gives what each outcome is told, and s is the
 -- record with the ticket spent and the payloads stored

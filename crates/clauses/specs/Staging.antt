@@ -8,13 +8,14 @@ use Rattle.choice.specs.Pick.{pick}
 use Rattle.areas.specs.Areas.{areaSize}
 use Rattle.batch.specs.Batch.{limit}
 use Rattle.record.specs.Answers.{Told, refused}
-use Rattle.record.specs.Fields.{top}
+use Rattle.record.specs.Fields.{top, withLengths}
 use Rattle.record.specs.declared.Record.{Record}
 use Rattle.wholeness.specs.Whole.{whole}
+use Rattle.staging.specs.Opening.{opening}
 use Rattle.clauses.specs.Keeping.{gained, SameBatch, Framed}
 
--- `new`, opened at revision v with a payload of length l, the areas of the right size or not
-pub record OpenClauses (sizes : Bool) (v l : ℕ) (t : Told) : Type 0 where
+-- `new`, opened at revision v and serial s with a payload of length l, the areas of the right size or not
+pub record OpenClauses (sizes : Bool) (v s l : ℕ) (t : Told) : Type 0 where
   -- no refusal but 6 and 8
   pub fits : (t .number ≡ 0) ↔ ((sizes ≡ true) × (l ≤ areaSize))
   -- `out.wf()`
@@ -26,6 +27,8 @@ pub record OpenClauses (sizes : Bool) (v l : ℕ) (t : Told) : Type 0 where
   -- not staged, and no entries
   pub c110 : t .state .staged ≡ false
   pub c111 : t .state .entries ≡ 0
+  -- stronger: the whole record, in which all else is 0, false or none
+  pub c111-record : t .number ≡ 0 → t .state ≡ opening v s l
 
 -- when a begin is ok: not staged, `version() < u64::MAX`, and neither 8 nor 9
 pub record CanBegin (r : Record) (c o n : ℕ) : Type 0 where
@@ -69,10 +72,9 @@ pub record EditClauses (r : Record) (c o : ℕ) (t : Told) : Type 0 where
   pub framed : Framed r t
   -- `new.batch() == old.batch()` (also C133)
   pub c124 : SameBatch r (t .state)
-  -- document 01: "All else, phase included, is kept."
-  pub phase : t .state .phase ≡ r .phase
-  pub forward : t .state .forward ≡ r .forward
-  pub back : t .state .back ≡ r .back
+  -- document 01: "All else, phase included, is kept.", and a refusal keeps the whole record (also C132)
+  pub c123-record : t .number ≡ 0 → t .state ≡ withLengths (r .accepted) c o r
+  pub c123-refused : refused (t .number) ≡ true → t .state ≡ r
   -- some implies that the staged payloads are those that are given, by their lengths (also C138)
   pub c128 : t .number ≡ 0 → (t .state .candidate ≡ c) × (t .state .recovery ≡ o)
   -- none implies that the old and the new are not staged (also C139, C140)

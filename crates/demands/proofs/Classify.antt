@@ -16,7 +16,6 @@ use Rattle.record.specs.Live as Tickets
 use Rattle.record.specs.declared.Record.{Record}
 use Rattle.record.specs.declared.Outcome.{Outcome}
 use Rattle.record.specs.declared.Outcome.the-variants as O
-use Rattle.record.specs.declared.Answer.the-variants.{Waiting, Failed}
 use Rattle.record.specs.declared.Refusal.the-variants.{Damaged}
 use Rattle.record.proofs.Saying.{refused-number}
 use Rattle.wholeness.specs.Whole.{whole}

@@ -11,14 +11,13 @@ use Rattle.record.specs.Answers.{Said, refused}
 use Rattle.record.specs.declared.Record.{Record}
 use Rattle.wholeness.specs.Whole.{whole}
 use Rattle.stamping.specs.Stamping.{passes, checkStep}
-use Rattle.calls.specs.Calls.{stepWith}
+use Rattle.calls.specs.Calls.{stepWith, AnyCall, stepOf}
 use Rattle.calls.specs.Calls.Work.{structure, update, rollback}
 use Rattle.calls.specs.Calls.Report.{structured, updated, rolledBack}
 use Rattle.calls.specs.Calls.Call.{begin, ask, report, edit, commit, recover, recoverRetained, refresh, stamp, check}
-use Rattle.demands.specs.Rows.{given, among, distinct, count}
-use Rattle.calls.specs.Calls.{AnyCall, stepOf}
-use Rattle.demands.specs.Refusals.{returned, rows, numbersOf}
 use Rattle.calls.specs.Calls.AnyCall.{opens, calls}
+use Rattle.demands.specs.Rows.{given, among, distinct, count}
+use Rattle.demands.specs.Refusals.{returned, rows, numbersOf}
 use Rattle.demands.proofs.OneRow.{Listed, one-given, one-listed}
 use Rattle.demands.proofs.Refusals.{fits-rows}
 

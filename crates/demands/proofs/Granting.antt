@@ -22,7 +22,6 @@ use Rattle.demands.specs.Plans.{due}
 use Rattle.demands.proofs.Own.{own}
 use Rattle.demands.proofs.Leaf.{Apart, Updates}
 use Rattle.demands.proofs.Facts.{Whole, tests}
-use Rattle.demands.proofs.Facts.Stage.{flat}
 use Rattle.demands.proofs.Reading.{apart-of, whole-facts}
 use Rattle.demands.proofs.Testing.{ranges}
 use Rattle.demands.proofs.Wholeness.{updates-test}

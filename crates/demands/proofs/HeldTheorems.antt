@@ -1,6 +1,6 @@
 -- Demands 2 and 3 of a chain of real calls, each handed all that the last left. Assumes nothing.
 use Prim.Native.Nat.{ℕ, _≤_}
-use mathlib.Core.Path.{_≡_, refl, sym}
+use mathlib.Core.Path.{_≡_}
 use mathlib.Core.Bool.{Bool}
 use mathlib.Core.List.{List, [], _∷_}
 use Rattle.choice.specs.Pick.{pick}
@@ -13,7 +13,7 @@ use Rattle.calls.specs.Calls.Call.{stamp, check}
 use Rattle.calls.specs.Lending.{leavesOf, unopened}
 use Rattle.calls.specs.Lending.Lending.{openAt}
 use Rattle.recording.specs.Through.{leavesThrough}
-use Rattle.demands.specs.Chains.{Heard, hears}
+use Rattle.demands.specs.Chains.{hears}
 use Rattle.demands.specs.Sending.{Sent, afterSent, heardSent}
 use Rattle.demands.specs.Watching.{Watch, watch, unwatched}
 use Rattle.demands.specs.Promises.{stampPasses}

@@ -2,21 +2,18 @@
 -- sent: so every theorem over those holds of it. Assumes nothing.
 use Prim.Native.Nat.{ℕ}
 use mathlib.Core.Path.{_≡_, refl, sym, _∙_, ap}
-use mathlib.Core.Bool.{Bool, true, false}
+use mathlib.Core.Bool.{Bool}
 use mathlib.Core.List.{List, [], _∷_, _++_}
 use native.Mathlib.Omega.{arith}
 use Rattle.record.specs.Answers.{Told}
 use Rattle.record.specs.declared.Record.{Record}
-use Rattle.log.specs.Log.{full}
 use Rattle.calls.specs.Calls.{Call, AnyCall}
 use Rattle.calls.specs.Calls.AnyCall.{opens, calls}
-use Rattle.calls.specs.Lending.{Lending, callOf, fits, leavesOf}
-use Rattle.recording.specs.Recorded.{withLog}
+use Rattle.calls.specs.Lending.{callOf, leavesOf}
 use Rattle.recording.specs.Through.{leavesThrough}
 use Rattle.demands.specs.Chains.{Heard, hears}
 use Rattle.demands.specs.Sending.{Sent, answeredAny, afterSent, heardSent}
-use Rattle.demands.specs.Holding.{Held, Payload, Given, Doing, lends, does, hearing, tells, sending, sends, afterHeld, heardHeld, sentHeld}
-use Rattle.demands.specs.Holding.Payload.{structured, updated, rolledBack}
+use Rattle.demands.specs.Holding.{Held, Given, Doing, lends, does, hearing, tells, sending, sends, afterHeld, heardHeld, sentHeld}
 use Rattle.demands.specs.Holding.Given.{begin, ask, report, edit, commit, recover, recoverRetained, refresh, stamp, check}
 use Rattle.demands.specs.Holding.Doing.{transacts, records, fills}
 use Rattle.demands.proofs.SentCalls.{sent-transaction, sent-recorder}

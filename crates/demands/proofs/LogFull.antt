@@ -15,10 +15,10 @@ use Rattle.log.specs.Log.{full}
 use Rattle.recording.specs.Recorded.{recorded}
 use Rattle.events.specs.Entries.{logOf}
 use Rattle.events.proofs.Noting.{full-changes-nothing}
-use Rattle.calls.specs.Calls.{Call, stepWith, step}
+use Rattle.calls.specs.Calls.{Call, stepWith}
+use Rattle.calls.specs.Kinds.{kindOf}
 use Rattle.demands.specs.Chains.{hears}
 use Rattle.demands.specs.Logged.{written, loggedStep, logged}
-use Rattle.calls.specs.Kinds.{kindOf}
 use Rattle.demands.proofs.NeverFull.{Other, never-full}
 use Rattle.demands.proofs.LoggedSteps.{by-kind}
 

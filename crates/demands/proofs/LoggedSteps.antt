@@ -19,8 +19,8 @@ use Rattle.recording.specs.Recorded.{recorded}
 use Rattle.events.proofs.Laws.{stays-sound, same-length}
 use Rattle.events.proofs.Noting.{noted-one, noted-none, same-told, noted-last}
 use Rattle.calls.specs.Calls.{Call, stepWith, step}
-use Rattle.demands.specs.Logged.{written, loggedStep}
 use Rattle.calls.specs.Kinds.{noKind, kindOf, writtenAs}
+use Rattle.demands.specs.Logged.{written, loggedStep}
 
 -- the event of the plain call, if it has one
 abbrev pub eventOf : Record → Call → List Entry

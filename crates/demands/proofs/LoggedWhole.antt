@@ -14,8 +14,8 @@ use Rattle.recording.specs.Recorded.{recorded}
 use Rattle.events.specs.Entries.{logOf}
 use Rattle.events.proofs.Laws.{either}
 use Rattle.calls.specs.Calls.{Call}
-use Rattle.demands.specs.Logged.{written, loggedStep, logged}
 use Rattle.calls.specs.Kinds.{kindOf}
+use Rattle.demands.specs.Logged.{written, loggedStep, logged}
 use Rattle.demands.proofs.Chain.{whole-kept}
 use Rattle.demands.proofs.LoggedSteps.{by-kind, plain, step-sound, step-length}
 

@@ -9,10 +9,9 @@ use Rattle.calls.specs.Calls.{Call, stepWith}
 use Rattle.calls.specs.Calls.Work.{structure, update, rollback}
 use Rattle.calls.specs.Calls.Report.{structured, updated, rolledBack}
 use Rattle.calls.specs.Calls.Call.{begin, ask, report, edit, commit, recover, recoverRetained, refresh, stamp, check}
-use Rattle.demands.specs.Rows.{among}
-use Rattle.calls.specs.Calls.{stepOf}
-use Rattle.demands.specs.Refusals.{numbersOf}
 use Rattle.calls.specs.Calls.AnyCall.{calls}
+use Rattle.demands.specs.Rows.{among}
+use Rattle.demands.specs.Refusals.{numbersOf}
 use Rattle.demands.proofs.ExactRefusals.{listed-answer}
 use Rattle.demands.proofs.OneRow.{unlisted}
 

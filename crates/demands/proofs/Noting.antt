@@ -11,7 +11,6 @@ use Rattle.record.specs.Answers.{said}
 use Rattle.record.specs.Fields.{spent}
 use Rattle.record.specs.declared.Record.{Record}
 use Rattle.record.specs.declared.Outcome.the-variants as O
-use Rattle.asking.specs.Asks.{turned}
 use Rattle.reporting.specs.Done.{advanced}
 use Rattle.reporting.specs.Reports.{storing}
 use Rattle.demands.specs.Watching.{Item, Watch, settles, lists, reported}
@@ -21,9 +20,7 @@ use Rattle.demands.proofs.Facts.{Whole, byCase}
 use Rattle.demands.proofs.Testing.{ranges}
 use Rattle.demands.proofs.Wholeness.{successor-test}
 use Rattle.demands.proofs.Moves.{Along, Undo, goes-up, goes-down, inAlong}
-use Rattle.demands.proofs.Course.{Kind, Last, Course, started, up, down, same-kind}
-use Rattle.demands.proofs.Course.Kind.{structural}
-use Rattle.demands.proofs.Course.Course.{behind}
+use Rattle.demands.proofs.Course.{Kind, Last, Course, up, down, same-kind}
 
 pub record Tied (w : Watch) (r : Record) : Type 0 where
   pub running : w .running ≡ r .staged

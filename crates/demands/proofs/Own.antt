@@ -21,7 +21,7 @@ use Rattle.settling.specs.Ending.{commitOwn, recoverOwn, recoverRetainedOwn, re
 use Rattle.stamping.specs.Stamping.{saysStamping, saysChecked, stampStep, passes, checkStep}
 use Rattle.stamping.specs.declared.Stamping.the-variants as S
 use Rattle.stamping.specs.declared.Checked.the-variants as C
-use Rattle.calls.specs.Calls.{Call, stepWith, step}
+use Rattle.calls.specs.Calls.{Call, step}
 use Rattle.calls.specs.Calls.Work.{structure, update, rollback}
 use Rattle.calls.specs.Calls.Report.{structured, updated, rolledBack}
 use Rattle.calls.specs.Calls.Call.{begin, ask, report, edit, commit, recover, recoverRetained, refresh, stamp, check}

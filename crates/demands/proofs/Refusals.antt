@@ -27,14 +27,13 @@ use Rattle.reporting.specs.Done.{onward, advanced, structureDone, updateDone, r
 use Rattle.reporting.specs.Reports.{behind, reportGate, reported, reportStructureOwn}
 use Rattle.settling.specs.Ending.{commitOwn, unrestored, recoverOwn, recoverRetainedOwn, refreshOwn}
 use Rattle.stamping.specs.Stamping.{stampStep, checkStep}
-use Rattle.calls.specs.Calls.{stepWith}
+use Rattle.calls.specs.Calls.{AnyCall, stepOf}
 use Rattle.calls.specs.Calls.Work.{structure, update, rollback}
 use Rattle.calls.specs.Calls.Report.{structured, updated, rolledBack}
 use Rattle.calls.specs.Calls.Call.{begin, ask, report, edit, commit, recover, recoverRetained, refresh, stamp, check}
-use Rattle.demands.specs.Rows.{Row, _when_, otherwise}
-use Rattle.calls.specs.Calls.{AnyCall, stepOf}
-use Rattle.demands.specs.Refusals.{returned, gateRows, beginRows, reportRows, rows}
 use Rattle.calls.specs.Calls.AnyCall.{opens, calls}
+use Rattle.demands.specs.Rows.{Row, _when_, otherwise}
+use Rattle.demands.specs.Refusals.{returned, gateRows, beginRows, reportRows, rows}
 use Rattle.demands.proofs.Rows.{View, Fits, Leaf, now, later, row, row-else, around, alike, along, under, over}
 use Rattle.demands.proofs.Rows.Leaf.{stays, goes}
 

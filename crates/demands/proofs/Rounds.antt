@@ -14,10 +14,10 @@ use Rattle.record.specs.Fields.{top, adopting}
 use Rattle.record.specs.declared.Record.{Record}
 use Rattle.reporting.specs.Done.{advanced, leaving}
 use Rattle.calls.specs.Calls.{Call, step}
+use Rattle.calls.specs.Kinds.{kindOf, stepKind}
 use Rattle.demands.specs.Chains.{after, heard}
 use Rattle.demands.specs.Watching.{Watch, watch}
 use Rattle.demands.specs.Plans.{due}
-use Rattle.calls.specs.Kinds.{kindOf, stepKind}
 use Rattle.demands.specs.Promises.{Asking}
 use Rattle.demands.specs.Progress.{DoneReport, counted, wanted, worked}
 use Rattle.demands.specs.Progress.DoneReport.{forStructure, forUpdate, forRollback}

@@ -19,8 +19,8 @@ use Rattle.wholeness.specs.declared.Gate.the-variants.{Open, Shut}
 use Rattle.settling.specs.Ending.{commitOwn}
 use Rattle.calls.specs.Calls.{Call, step}
 use Rattle.calls.specs.Calls.Call.{commit}
-use Rattle.demands.specs.Chains.{hears}
 use Rattle.calls.specs.Kinds.{kindOf}
+use Rattle.demands.specs.Chains.{hears}
 use Rattle.demands.specs.Sending.{Sent, answered, afterSent, heardSent}
 use Rattle.demands.specs.Watching.{Item, Watch, performed, reported, sees, watch}
 use Rattle.demands.specs.Turning.{recovers, recoveredIn, UntilRecovery}

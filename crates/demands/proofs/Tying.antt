@@ -27,7 +27,7 @@ use Rattle.demands.proofs.Moves.{choice, inBatch, inUndo}
 use Rattle.demands.proofs.Tickets.{is-structure, is-update, is-rollback, onStructure, onUpdate, onRollback, ended}
 use Rattle.demands.proofs.Course.{Kind, started, turn, lower, raise, same-kind}
 use Rattle.demands.proofs.Course.Kind.{updateOnly, structural}
-use Rattle.demands.proofs.Course.Course.{ahead, behind}
+use Rattle.demands.proofs.Course.Course.{ahead}
 use Rattle.demands.proofs.Noting.{Tied, note-ahead, note-behind, undo-back, advances}
 
 -- the kind of transaction stays while the phase moves

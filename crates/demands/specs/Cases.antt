@@ -48,7 +48,7 @@ done = says (Done Nothing)
 
 -- structure work of one phase: a ticket for it, and Done
 abbrev pub phase : ℕ → ℕ → Said → List Line
-phase ticket p last = ((ask structure) ⇒ says (Ticket ticket p)) ∷ (report (structured 2 2) ticket O.Done ⇒ last) ∷ []
+phase ticket p last = (ask structure ⇒ says (Ticket ticket p)) ∷ (report (structured 2 2) ticket O.Done ⇒ last) ∷ []
 
 -- "structural ..: More thrice, Finished": the phases 1 to 4
 abbrev pub mounted : List Line
@@ -71,27 +71,27 @@ cases =
     ∷ case (opening 0 0 3) ((begin false 2 2 0 ⇒ done) ∷ (recover 4 ⇒ says (Done (Three 3 2 2))) ∷ looks (λ r. eqb (r .revision) 0) ∷ [])
     -- P6 structural, 0 actions: More thrice, Finished, ask update Finished, Adopt Finished, commit
     ∷ case (opening 0 0 3)
-    ((begin true 2 2 0 ⇒ done) ∷ mounted ++ ((ask update) ⇒ says Finished) ∷ phase 5 6 (says Finished) ++ (commit ⇒ says (Done (Three 3 2 0))) ∷ [])
+    ((begin true 2 2 0 ⇒ done) ∷ mounted ++ (ask update ⇒ says Finished) ∷ phase 5 6 (says Finished) ++ (commit ⇒ says (Done (Three 3 2 0))) ∷ [])
     -- P7 structural, 2 actions, rollback at Mount: Finished, phase 9, then More thrice, Finished
     ∷ case (opening 0 0 0)
-    ((begin true 2 2 2 ⇒ done) ∷ phase 1 1 (says More) ++ phase 2 2 (says More) ++ ((ask rollback) ⇒ says Finished)
+    ((begin true 2 2 2 ⇒ done) ∷ phase 1 1 (says More) ++ phase 2 2 (says More) ++ (ask rollback ⇒ says Finished)
     ∷ looks (λ r. eqb (r .phase .number) recoverRemove)
     ∷ phase 3 9 (says More) ++ phase 4 10 (says More) ++ phase 5 11 (says More) ++ phase 6 12 (says Finished))
     -- P8 update-only, 3 actions, Done, Waiting, ask rollback: entries 2, ticket for number 1; Done More, Done Finished
     ∷ case (opening 0 0 0)
-    ((begin false 2 2 3 ⇒ done) ∷ ((ask update) ⇒ says (Ticket 1 0)) ∷ (report updated 1 O.Done ⇒ says More) ∷ ((ask update) ⇒ says (Ticket 2 1))
-    ∷ (report updated 2 O.Waiting ⇒ says Waiting) ∷ ((ask rollback) ⇒ says (Ticket 3 1)) ∷ looks (λ r. eqb (r .entries) 2)
-    ∷ (report rolledBack 3 O.Done ⇒ says More) ∷ ((ask rollback) ⇒ says (Ticket 4 0)) ∷ (report rolledBack 4 O.Done ⇒ says Finished) ∷ [])
+    ((begin false 2 2 3 ⇒ done) ∷ (ask update ⇒ says (Ticket 1 0)) ∷ (report updated 1 O.Done ⇒ says More) ∷ (ask update ⇒ says (Ticket 2 1))
+    ∷ (report updated 2 O.Waiting ⇒ says Waiting) ∷ (ask rollback ⇒ says (Ticket 3 1)) ∷ looks (λ r. eqb (r .entries) 2)
+    ∷ (report rolledBack 3 O.Done ⇒ says More) ∷ (ask rollback ⇒ says (Ticket 4 0)) ∷ (report rolledBack 4 O.Done ⇒ says Finished) ∷ [])
     -- P9 serial 0, asked twice: ticket 1 Stale, 2 taken
     ∷ case (opening 0 0 0)
-    ((begin false 0 0 1 ⇒ done) ∷ ((ask update) ⇒ says (Ticket 1 0)) ∷ ((ask update) ⇒ says (Ticket 2 0)) ∷ (report updated 1 O.Done ⇒ says (Refused Stale))
+    ((begin false 0 0 1 ⇒ done) ∷ (ask update ⇒ says (Ticket 1 0)) ∷ (ask update ⇒ says (Ticket 2 0)) ∷ (report updated 1 O.Done ⇒ says (Refused Stale))
     ∷ (report updated 2 O.Done ⇒ says Finished) ∷ [])
     -- P10 ask structure: 4 in phase 5, Finished in 7
     ∷ case (opening 0 0 0)
-    ((begin true 2 2 0 ⇒ done) ∷ mounted ++ ((ask structure) ⇒ says (Refused NotReady)) ∷ ((ask update) ⇒ says Finished)
-    ∷ phase 5 6 (says Finished) ++ ((ask structure) ⇒ says Finished) ∷ [])
+    ((begin true 2 2 0 ⇒ done) ∷ mounted ++ (ask structure ⇒ says (Refused NotReady)) ∷ (ask update ⇒ says Finished)
+    ∷ phase 5 6 (says Finished) ++ (ask structure ⇒ says Finished) ∷ [])
     -- P11 idle rollback Finished, then ask update 5
-    ∷ case (opening 0 0 0) (((ask rollback) ⇒ says Finished) ∷ ((ask update) ⇒ says (Refused Recovering)) ∷ [])
+    ∷ case (opening 0 0 0) ((ask rollback ⇒ says Finished) ∷ (ask update ⇒ says (Refused Recovering)) ∷ [])
     -- P12 stamp, update-only begin without actions, recover: the stamp passes
     ∷ case (opening 7 0 3)
     ((stamp 3 ⇒ said 0 (3 ∷ 7 ∷ [])) ∷ (begin false 2 2 0 ⇒ done) ∷ (recover 4 ⇒ says (Done (Three 3 2 2))) ∷ (check 3 3 7 ⇒ said 0 (1 ∷ [])) ∷ [])

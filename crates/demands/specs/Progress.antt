@@ -16,10 +16,10 @@ use Rattle.calls.specs.Calls.{Call, step}
 use Rattle.calls.specs.Calls.Work.{structure, update, rollback}
 use Rattle.calls.specs.Calls.Report.{structured, updated, rolledBack}
 use Rattle.calls.specs.Calls.Call.{ask, report, commit, recoverRetained}
+use Rattle.calls.specs.Kinds.{kindOf, stepKind}
 use Rattle.demands.specs.Chains.{hears, after, heard}
 use Rattle.demands.specs.Watching.{Watch, performed, taken, watch}
 use Rattle.demands.specs.Plans.{planned, plannedBack}
-use Rattle.calls.specs.Kinds.{kindOf, stepKind}
 
 -- the report of a ticket that an asking was answered with: of its kind of work, Done, "payloads" of at most 4,096 bytes
 pub data DoneReport (ticket : ℕ) : Call → Call → Type 0 where

@@ -11,14 +11,13 @@ use Rattle.batch.specs.Batch.{limit}
 use Rattle.record.specs.Fields.{top}
 use Rattle.record.specs.Live.{isLive}
 use Rattle.record.specs.Live as Tickets
-use Rattle.record.specs.Answers.{Told}
 use Rattle.record.specs.declared.Record.{Record}
 use Rattle.record.specs.declared.Outcome.{Outcome}
 use Rattle.record.specs.declared.Outcome.the-variants as O
 use Rattle.wholeness.specs.Whole.{whole, complete}
-use Rattle.staging.specs.Opening.{opening, openStep}
+use Rattle.staging.specs.Opening.{opening}
 use Rattle.asking.specs.Asks.{worn}
-use Rattle.calls.specs.Calls.{Call, stepWith, AnyCall}
+use Rattle.calls.specs.Calls.{AnyCall}
 use Rattle.calls.specs.Calls.AnyCall.{opens, calls}
 use Rattle.calls.specs.Calls.Work.{structure, update, rollback}
 use Rattle.calls.specs.Calls.Report.{structured, updated, rolledBack}

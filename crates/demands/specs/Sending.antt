@@ -7,11 +7,10 @@ use Rattle.record.specs.Answers.{Told, refuse}
 use Rattle.record.specs.declared.Record.{Record}
 use Rattle.record.specs.declared.Refusal.the-variants.{LogFull}
 use Rattle.staging.specs.Opening.{openStep}
-use Rattle.calls.specs.Calls.{Call, stepWith}
+use Rattle.calls.specs.Calls.{Call, stepWith, AnyCall}
+use Rattle.calls.specs.Calls.AnyCall.{opens, calls}
 use Rattle.demands.specs.Chains.{Heard, hears}
 use Rattle.demands.specs.Logged.{written}
-use Rattle.calls.specs.Calls.{AnyCall}
-use Rattle.calls.specs.Calls.AnyCall.{opens, calls}
 
 -- a call; whether all that it is lent has the right size, and, where it goes through a log, whether the log's head is sound and
 -- whether it is full

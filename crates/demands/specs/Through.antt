@@ -5,7 +5,7 @@ use mathlib.Core.List.{List, _∷_}
 use lib.Dec.{eqb, ltb}
 use Rattle.choice.specs.Pick.{pick, _and_, _or_}
 use Rattle.record.specs.declared.Record.{Record}
-use Rattle.log.specs.Log.{sound, full, event}
+use Rattle.log.specs.Log.{full, event}
 use Rattle.calls.specs.Lending.{Lending, callOf, fits}
 use Rattle.calls.specs.Kinds.{kind, writtenAs}
 use Rattle.recording.specs.Recorded.{withLog}

@@ -10,10 +10,10 @@ use Rattle.areas.specs.Areas.{long}
 use Rattle.record.specs.declared.Record.{Record}
 use Rattle.calls.specs.Calls.{step}
 use Rattle.calls.specs.Calls.Call.{commit, recover, recoverRetained}
+use Rattle.calls.specs.Kinds.{kindOf}
 use Rattle.demands.specs.Chains.{Heard}
 use Rattle.demands.specs.Watching.{Watch, performed}
 use Rattle.demands.specs.Plans.{plannedBack}
-use Rattle.calls.specs.Kinds.{kindOf}
 
 -- a recovery that is performed; "Kinds: .. 10 recover, 11 recover retained"
 abbrev pub recovers : Heard → Bool
