@@ -19,8 +19,7 @@ use Rattle.demands.specs.Starting.{watchOf}
 use Rattle.demands.specs.Promises.{Asking}
 use Rattle.demands.specs.Progress.{DoneReport, Counts, Finishes}
 use Rattle.demands.specs.Turning.{recoveredIn}
-use Rattle.demands.proofs.From.{revision-from, commit-from, recovery-from, never-locked-from, progress-from, finishes-from}
-use Rattle.demands.proofs.From.{until-recovery-from, recovery-back-from, recovery-early-from}
+use Rattle.demands.proofs.From.{revision-from, commit-from, recovery-from, never-locked-from, progress-from, finishes-from, until-recovery-from, recovery-back-from, recovery-early-from}
 use Rattle.demands.proofs.Exhibits.{staged, updating}
 use Rattle.demands.proofs.Computing.{called, performs, reached, known}
 use Rattle.demands.proofs.Courses.{settles}
