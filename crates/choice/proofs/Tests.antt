@@ -30,6 +30,11 @@ unfolding _and_
 no-right true p = p
 no-right false p = refl
 
+pub and-true : (a : Bool) → a ≡ a and true
+unfolding _and_
+and-true true = refl
+and-true false = refl
+
 pub either : {a b : Bool} {P : Type 0} → a or b ≡ true → (a ≡ true → P) → (b ≡ true → P) → P
 unfolding _or_
 either {a = true} h f g = f refl

@@ -6,7 +6,7 @@ use mathlib.Core.List.{List, [], _∷_}
 use native.Mathlib.Omega.{arith}
 use lib.ListN.{length, getD, replicate}
 use borrow.Author.Tests.{le-ltb, ltb-false, not-true, not-false}
-use Rattle.choice.proofs.Picks.{no}
+use Rattle.choice.proofs.Picks.{no, picked}
 use Rattle.choice.proofs.Tests.{tests, both}
 use Rattle.areas.specs.Areas.{areaSize, sized, copied, long}
 use Rattle.record.specs.Answers.{Told}
@@ -22,7 +22,6 @@ use Rattle.recording.specs.Through.{leavesThrough}
 use Rattle.demands.proofs.Wholeness.{whole-test}
 use Rattle.demands.proofs.Advancing.{idles}
 use Rattle.demands.proofs.Granting.{clash}
-use Rattle.demands.proofs.Picking.{picked}
 use Rattle.clauses.specs.Staging.{OpenClauses}
 use Rattle.clauses.specs.Lending.{Opens}
 use Rattle.clauses.specs.Recording.{OpenRecorded}

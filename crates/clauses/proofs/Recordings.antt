@@ -6,7 +6,7 @@ use mathlib.Core.List.{List, _∷_}
 use mathlib.Core.Logic.{_≢_}
 use borrow.Author.Tests.{not-true, not-false}
 use Rattle.choice.specs.Pick.{_and_}
-use Rattle.choice.proofs.Picks.{yes, no}
+use Rattle.choice.proofs.Picks.{yes, no, picked}
 use Rattle.choice.proofs.Tests.{both}
 use Rattle.record.specs.Answers.{Told, refused, refusalNumber, refuse}
 use Rattle.record.specs.Leaves.{Leaves, leaves, moving}
@@ -22,7 +22,6 @@ use Rattle.calls.specs.Kinds.{callWritten}
 use Rattle.demands.proofs.Unseen.{quiet}
 use Rattle.demands.proofs.Testing.{not-yes}
 use Rattle.demands.proofs.Granting.{clash}
-use Rattle.demands.proofs.Picking.{picked}
 use Rattle.clauses.specs.Recording.{unlogged, Recorded, Through}
 use Rattle.clauses.proofs.Refusals.{refused-equal}
 

@@ -5,6 +5,7 @@ use mathlib.Core.Path.{_≡_, refl}
 use mathlib.Core.Bool.{Bool, true, false}
 use lib.Dec.{ltb}
 use Rattle.choice.specs.Pick.{pick}
+use Rattle.choice.proofs.Picks.{picked}
 use Rattle.choice.proofs.Tests.{tests, both, test}
 use Rattle.record.specs.Answers.{Told, refused}
 use Rattle.record.specs.declared.Record.{Record}
@@ -21,7 +22,6 @@ use Rattle.calls.specs.Calls.Work.{structure, update, rollback}
 use Rattle.calls.specs.Calls.Report.{structured, updated, rolledBack}
 use Rattle.calls.specs.Calls.Call.{begin, ask, report, edit, commit, recover, recoverRetained, refresh, stamp, check}
 use Rattle.demands.proofs.Own.{own, whole-step, damaged-step}
-use Rattle.demands.proofs.Picking.{picked}
 use Rattle.clauses.proofs.Splitting.{performed-fine}
 
 -- a number over 13 is no refusal

@@ -6,6 +6,7 @@ use mathlib.Core.Logic.{_≢_}
 use lib.Dec.{ltb}
 use borrow.Author.Tests.{ltb-false}
 use Rattle.choice.specs.Pick.{pick, _and_, _or_}
+use Rattle.choice.proofs.Picks.{picked}
 use Rattle.choice.proofs.Tests.{tests, never, either, neither, eqb-ne}
 use Rattle.areas.specs.Areas.{areaSize, long}
 use Rattle.record.specs.Answers.{Told, refused, refusalNumber}
@@ -17,7 +18,6 @@ use Rattle.wholeness.specs.Whole.{whole}
 use Rattle.calls.specs.Calls.{Call, step}
 use Rattle.demands.proofs.Own.{own, whole-step}
 use Rattle.demands.proofs.Unseen.{quiet}
-use Rattle.demands.proofs.Picking.{picked}
 use Rattle.demands.proofs.Chain.{whole-kept}
 
 -- a test that does not hold

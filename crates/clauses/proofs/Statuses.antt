@@ -9,6 +9,7 @@ use lib.ListN.{getD, length-set}
 use lib.Seq.{getD-set-same, getD-set-other}
 use borrow.Author.Tests.{eq-eqb, eqb-true, ltb-false, le-leb, leb-false, not-true, not-false}
 use Rattle.choice.specs.Pick.{pick, _and_, _or_}
+use Rattle.choice.proofs.Picks.{picked}
 use Rattle.choice.proofs.Tests.{tests, both, join}
 use Rattle.record.specs.Answers.{said}
 use Rattle.record.specs.declared.Refusal.{Refusal}
@@ -18,7 +19,6 @@ use Rattle.status.specs.declared.Entry.{Entry}
 use Rattle.status.specs.declared.Entry.the-variants.{At, No}
 use Rattle.demands.proofs.Testing.{right}
 use Rattle.demands.proofs.Granting.{clash}
-use Rattle.demands.proofs.Picking.{picked}
 use Rattle.clauses.specs.Status.{Place, MarkClauses, Initializes, Cancels}
 use Rattle.clauses.proofs.Splitting.{refusal-real}
 

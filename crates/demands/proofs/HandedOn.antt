@@ -6,6 +6,7 @@ use mathlib.Core.Bool.{Bool, true, false}
 use mathlib.Core.List.{List, [], _∷_}
 use lib.ListN.{getD, drop}
 use Rattle.choice.specs.Pick.{pick}
+use Rattle.choice.proofs.Picks.{each}
 use Rattle.record.specs.Answers.{Told, refused, refuse}
 use Rattle.record.specs.Leaves.{Leaves, leaves}
 use Rattle.record.specs.declared.Record.{Record}
@@ -39,11 +40,6 @@ both-ways h recoverRetained r s log = (refl, refl)
 both-ways h (refresh n) r s log = (refl, refl)
 both-ways h (stamp domain) r s log = (refl, refl)
 both-ways h (check domain d v) r s log = (refl, refl)
-
-each : {A : Type 0} (P : A → Type 0) (b : Bool) {x y : A} → P x → P y → P (pick b x y)
-unfolding pick
-each P true p q = p
-each P false p q = q
 
 pub handed-on : (h : Held) (g : Given false) → lent (lends (does h (transacts g)) g) ≡ leavesOf (h .state) (lends h g) .lent
 handed-on h g = let b = both-ways h g (h .state) (does h (transacts g) .state) (h .log) in each (Back h g (does h (transacts g) .state) (h .log)) _ (b .0) (b .1)

@@ -33,6 +33,7 @@ from sized v s l m o r ss e = rw e record {
   never-locked = T.never-locked sized v s l m o ss;
   progress = T.progress sized v s l m o ss;
   finishes = T.finishes sized v s l m o ss;
+  until-recovery = T.until-recovery sized v s l m o ss;
   recovery-back = T.recovery-back sized v s l m o ss;
   recovery-early = T.recovery-early sized v s l m o ss;
 }

@@ -8,6 +8,7 @@ use lib.Dec.{eqb}
 use lib.ListN.{getD}
 use borrow.Author.Tests.{eq-eqb, le-ltb}
 use Rattle.choice.specs.Pick.{pick, _and_, _or_}
+use Rattle.choice.proofs.Picks.{picked}
 use Rattle.choice.proofs.Tests.{test, either, eqb-ne}
 use Rattle.areas.specs.Areas.{long, areaSize}
 use Rattle.record.specs.Answers.{Told, Said, said, answer}
@@ -33,7 +34,6 @@ use Rattle.demands.specs.Progress.DoneReport.{forStructure, forUpdate, f
 use Rattle.demands.proofs.Own.{own, whole-step, damaged-step}
 use Rattle.demands.proofs.Facts.{Whole}
 use Rattle.demands.proofs.Chain.{undamaged, whole-kept}
-use Rattle.demands.proofs.Picking.{picked}
 use Rattle.demands.proofs.Granting.{clash}
 use Rattle.demands.proofs.OneDue.{Due}
 

@@ -23,7 +23,6 @@ pub mod Exactly
 pub mod Granting
 pub mod OneDue
 pub mod Asking
-pub mod Picking
 pub mod Issuing
 pub mod Progress
 pub mod Rounds
@@ -65,3 +64,4 @@ pub mod HeldTheorems
 pub mod Logbook
 pub mod HeldExhibit
 pub mod HandedOn
+pub mod Framing

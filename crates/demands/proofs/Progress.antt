@@ -7,6 +7,7 @@ use lib.Dec.{eqb}
 use lib.ListN.{length-append}
 use borrow.Author.Tests.{eq-eqb, eqb-true, leb-true}
 use Rattle.choice.specs.Pick.{pick, _or_}
+use Rattle.choice.proofs.Picks.{picked}
 use Rattle.choice.proofs.Tests.{both, either, eqb-ne}
 use Rattle.record.specs.Answers.{Told, Said, said, answer}
 use Rattle.record.specs.Fields.{withPlace, adopting}
@@ -30,7 +31,6 @@ use Rattle.demands.proofs.Testing.{ranges}
 use Rattle.demands.proofs.Chain.{Good, undamaged}
 use Rattle.demands.proofs.Calming.{range}
 use Rattle.demands.proofs.Keeping.{report-keeps}
-use Rattle.demands.proofs.Picking.{picked}
 use Rattle.demands.proofs.Granting.{due-update}
 use Rattle.demands.proofs.OneDue.{Due, due-is}
 use Rattle.demands.proofs.Issuing.{done-taken}

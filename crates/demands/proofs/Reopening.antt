@@ -2,6 +2,7 @@
 use Prim.Native.Nat.{ℕ, _+_}
 use mathlib.Core.Path.{_≡_, refl}
 use Rattle.choice.proofs.Tests.{test, eqb-ne}
+use Rattle.choice.proofs.Picks.{picked}
 use Rattle.record.specs.Answers.{Told, refuse}
 use Rattle.record.specs.declared.Record.{Record}
 use Rattle.record.specs.declared.Refusal.{Refusal}
@@ -14,7 +15,6 @@ use Rattle.calls.specs.Calls.{Call, step}
 use Rattle.calls.specs.Calls.Call.{commit, recover, recoverRetained}
 use Rattle.demands.proofs.Own.{own, whole-step, damaged-step}
 use Rattle.demands.proofs.Unseen.{quiet}
-use Rattle.demands.proofs.Picking.{picked}
 
 -- the record of a transaction that has ended is that of an opening, at its revision, its serial and its accepted length
 pub after-commit-opens : (v n : ℕ) (r : Record) → settled v n r ≡ opening v (r .serial) n

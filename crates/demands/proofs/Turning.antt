@@ -5,6 +5,7 @@ use mathlib.Core.Bool.{Bool, true, false}
 use mathlib.Core.List.{List, [], _∷_}
 use borrow.Author.Tests.{not-true, not-false}
 use Rattle.choice.specs.Pick.{pick, _and_, _or_}
+use Rattle.choice.proofs.Picks.{picked}
 use Rattle.choice.proofs.Tests.{never, both, neither}
 use Rattle.record.specs.Answers.{Told, Said, said, refuse}
 use Rattle.record.specs.declared.Record.{Record}
@@ -34,7 +35,6 @@ use Rattle.demands.proofs.Noting.{Tied}
 use Rattle.demands.proofs.Sending.{sent-leaf}
 use Rattle.demands.proofs.Chain.{Good, good-leaf, undamaged}
 use Rattle.demands.proofs.Granting.{clash}
-use Rattle.demands.proofs.Picking.{picked}
 
 -- a commit that is sent while restoring is refused, whatever it is lent
 record Unperformed (x : Told) : Type 0 where

@@ -15,19 +15,19 @@ use Rattle.record.specs.declared.Record.{Record}
 use Rattle.record.specs.declared.Outcome.{Outcome}
 use Rattle.record.specs.declared.Outcome.the-variants as O
 use Rattle.wholeness.specs.Whole.{whole, complete}
-use Rattle.staging.specs.Opening.{opening}
 use Rattle.asking.specs.Asks.{worn}
 use Rattle.calls.specs.Calls.{AnyCall}
 use Rattle.calls.specs.Calls.AnyCall.{opens, calls}
 use Rattle.calls.specs.Calls.Work.{structure, update, rollback}
 use Rattle.calls.specs.Calls.Report.{structured, updated, rolledBack}
 use Rattle.calls.specs.Calls.Call.{begin, ask, report, edit, commit, recover, recoverRetained, refresh, stamp, check}
+use Rattle.calls.specs.Lending.{unopened}
 use Rattle.demands.specs.Rows.{Row, _when_, otherwise}
 
 -- the record that a refusal returns: "equal (a refused opening, which is given none, returns the one document 01 names)", which is
 -- "the record of an opening at 0, 0 with an empty payload"
 unfoldable pub returned : Record → AnyCall → Record
-returned r (opens revision serial accepted) = opening 0 0 0
+returned r (opens revision serial accepted) = unopened
 returned r (calls c) = r
 
 abbrev pub phaseIs : ℕ → Record → Bool
