@@ -1,0 +1,13 @@
+-- `transaction::ask_update` meets its contract: nothing is lent, so that it is the step itself. Assumes nothing.
+use borrow.Author.Needs.{needs}
+use Rattle.transaction.proofs.ask_update.Statement.{statement}
+use Rattle.transaction.proofs.ask_update.Tie as tie
+
+ask-update-requires : tie.Need-ask-update-requires
+ask-update-requires c κs = search needs
+
+returns : tie.Need-returns
+returns c = c .ask-update .ensures
+
+pub ask-update-spec : {M : Type 1} → statement M
+ask-update-spec = tie.close (tie.spec ask-update-requires returns)
