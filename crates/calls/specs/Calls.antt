@@ -4,12 +4,12 @@ use mathlib.Core.Bool.{Bool, true}
 use Rattle.record.specs.Answers.{Told, told}
 use Rattle.record.specs.declared.Record.{Record}
 use Rattle.record.specs.declared.Outcome.{Outcome}
-use Rattle.staging.specs.Opening.{openStep}
-use Rattle.staging.specs.Beginning.{beginStep, editStep}
-use Rattle.asking.specs.Asks.{askStructureStep, askUpdateStep, askRollbackStep}
-use Rattle.reporting.specs.Reports.{reportStructureStep, reportUpdateStep, reportRollbackStep}
-use Rattle.settling.specs.Ending.{commitStep, recoverStep, recoverRetainedStep, refreshStep}
-use Rattle.stamping.specs.Stamping.{stampStep, checkStep}
+use Rattle.step_begins.specs.Opening.{openStep}
+use Rattle.step_begins.specs.Beginning.{beginStep, editStep}
+use Rattle.step_asks.specs.Asks.{askStructureStep, askUpdateStep, askRollbackStep}
+use Rattle.step_reports.specs.Reports.{reportStructureStep, reportUpdateStep, reportRollbackStep}
+use Rattle.step_ends.specs.Ending.{commitStep, recoverStep, recoverRetainedStep, refreshStep}
+use Rattle.step_stamps.specs.Stamping.{stampStep, checkStep}
 
 -- the kinds of work that are asked for and reported
 pub data Work : Type 0 where

@@ -10,7 +10,7 @@ use Rattle.batch.specs.Batch.{tableSized, paired, pairsIn, stored}
 use Rattle.record.specs.Leaves.{Leaves, moving}
 use Rattle.record.specs.declared.Record.{Record}
 use Rattle.record.specs.declared.Outcome.{Outcome}
-use Rattle.staging.specs.Opening.{opening}
+use Rattle.step_begins.specs.Opening.{opening}
 use Rattle.calls.specs.Calls.{Work, Report, Call, AnyCall, stepOf}
 use Rattle.calls.specs.Calls.AnyCall.{opens, calls}
 

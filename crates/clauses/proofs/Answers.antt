@@ -14,9 +14,9 @@ use Rattle.record.specs.Fields.{top}
 use Rattle.record.specs.declared.Record.{Record}
 use Rattle.record.specs.declared.Refusal.the-variants.{Idle, NotReady}
 use Rattle.wholeness.specs.Whole.{whole}
-use Rattle.staging.specs.Beginning.{beginOwn}
-use Rattle.asking.specs.Asks.{turned, askRollbackOwn}
-use Rattle.settling.specs.Ending.{unrestored, recoverOwn, recoverRetainedOwn}
+use Rattle.step_begins.specs.Beginning.{beginOwn}
+use Rattle.step_asks.specs.Asks.{turned, askRollbackOwn}
+use Rattle.step_ends.specs.Ending.{unrestored, recoverOwn, recoverRetainedOwn}
 use Rattle.calls.specs.Calls.{step}
 use Rattle.calls.specs.Calls.Work.{rollback}
 use Rattle.calls.specs.Calls.Call.{begin, ask, recover, recoverRetained}

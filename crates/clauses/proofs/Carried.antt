@@ -18,12 +18,12 @@ use Rattle.record.specs.declared.Record.{Record}
 use Rattle.record.specs.declared.Outcome.{Outcome}
 use Rattle.wholeness.specs.Whole.{whole}
 use Rattle.log.specs.Log.{sound}
-use Rattle.recording.specs.Recorded.{withLog}
+use Rattle.noting.specs.Recorded.{withLog}
 use Rattle.calls.specs.Calls.{step, Work}
 use Rattle.calls.specs.Calls.Report.{structured, updated, rolledBack}
 use Rattle.calls.specs.Calls.Call.{begin, report, commit, recover, recoverRetained, refresh}
 use Rattle.calls.specs.Lending.{Stored, Lending}
-use Rattle.recording.specs.Through.{leavesThrough}
+use Rattle.noting.specs.Through.{leavesThrough}
 use Rattle.clauses.specs.Polls.{UpdateClauses, RollbackClauses}
 use Rattle.clauses.specs.Structure.{StructureClauses}
 use Rattle.clauses.specs.Staging.{BeginClauses}

@@ -16,7 +16,7 @@ use Rattle.record.specs.declared.Record.{Record}
 use Rattle.record.specs.declared.Refusal.{Refusal}
 use Rattle.record.specs.declared.Refusal.the-variants.{Idle, NotReady, TooLong}
 use Rattle.wholeness.specs.Whole.{whole, complete}
-use Rattle.settling.specs.Ending.{settled, commitOwn, unrestored, recoveredTo, recoverOwn, recoverRetainedOwn}
+use Rattle.step_ends.specs.Ending.{idleAt, commitOwn, unrestored, recoveredTo, recoverOwn, recoverRetainedOwn}
 use Rattle.calls.specs.Calls.{step}
 use Rattle.calls.specs.Calls.Call.{commit, recover, recoverRetained}
 use Rattle.demands.proofs.Own.{own}
@@ -55,7 +55,7 @@ module _ (r : Record) (m : r .revision ≤ top) (w : whole r ≡ true) where
   }
 
   pub commit-clauses : CommitClauses r (step r commit)
-  unfolding own commitOwn settled
+  unfolding own commitOwn idleAt
   commit-clauses = on-step (CommitClauses r) r commit m w
       (by (CommitClauses r) _ (λ e. commit-refuses Idle (λ x. clash _ (x .staged) (not-true _ e)) (idle-number _ e)) (λ e₁.
       by (CommitClauses r) _ (λ e. commit-refuses NotReady (λ x. either e (λ i. clash _ (x .complete) (not-true _ i)) (λ i. clash _ (x .place) (not-true _ i))) (staged-number _ e₁))
@@ -90,7 +90,7 @@ module _ (r : Record) (m : r .revision ≤ top) (w : whole r ≡ true) where
     }
 
     recovers : not (r .staged) ≡ false → unrestored r ≡ false → n ≤ areaSize → Kept Recovers (recoveredTo n r)
-    unfolding settled unrestored
+    unfolding idleAt unrestored
     recovers e₁ e₂ h k = let x = neither e₂ in let q : eqb (r .phase .number) 0 or eqb (r .phase .number) 13 ≡ true = not-false _ (x .1) in record {
       c202 = k;
       c203 = refl;

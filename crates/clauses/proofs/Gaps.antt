@@ -18,9 +18,9 @@ use Rattle.record.specs.declared.Record.{Record}
 use Rattle.record.specs.declared.Outcome.{Outcome}
 use Rattle.record.specs.declared.Outcome.the-variants as O
 use Rattle.wholeness.specs.Whole.{whole}
-use Rattle.asking.specs.Asks.{askStructureOwn, askUpdateOwn}
-use Rattle.reporting.specs.Done.{leaving, structureDone, updateDone, rollbackDone}
-use Rattle.reporting.specs.Reports.{reported, reportStructureOwn}
+use Rattle.step_asks.specs.Asks.{askStructureOwn, askUpdateOwn}
+use Rattle.step_reports.specs.Done.{leaving, structureDone, updateDone, rollbackDone}
+use Rattle.step_reports.specs.Reports.{reported, reportStructureOwn}
 use Rattle.calls.specs.Calls.{step}
 use Rattle.calls.specs.Calls.Work.{structure, update}
 use Rattle.calls.specs.Calls.Report.{structured, updated, rolledBack}

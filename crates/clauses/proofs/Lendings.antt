@@ -18,7 +18,7 @@ use Rattle.record.specs.declared.Record.{Record}
 use Rattle.record.specs.declared.Outcome.{Outcome}
 use Rattle.record.specs.declared.Refusal.the-variants.{BadArea}
 use Rattle.wholeness.specs.Gates.{gateOf, gated}
-use Rattle.reporting.specs.Reports.{behind, reportGate}
+use Rattle.step_reports.specs.Reports.{behind, reportGate}
 use Rattle.calls.specs.Calls.{Call, stepWith, step}
 use Rattle.calls.specs.Calls.Report.{structured, updated, rolledBack}
 use Rattle.calls.specs.Calls.Call.{begin, report, edit, commit, recover, recoverRetained, refresh}

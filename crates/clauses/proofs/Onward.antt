@@ -16,8 +16,8 @@ use Rattle.record.specs.Fields.{top, spent}
 use Rattle.record.specs.declared.Record.{Record}
 use Rattle.record.specs.declared.Live.{Live}
 use Rattle.wholeness.specs.Whole.{whole}
-use Rattle.reporting.specs.Done.{advanced}
-use Rattle.reporting.specs.Reports.{storing}
+use Rattle.step_reports.specs.Done.{advanced}
+use Rattle.step_reports.specs.Reports.{storing}
 use Rattle.demands.proofs.Leaf.{Apart}
 use Rattle.demands.proofs.Facts.{Calm, tests, byCase}
 use Rattle.demands.proofs.Facts.Calm.{on, off}

@@ -13,12 +13,12 @@ use Rattle.record.specs.Answers.{Told}
 use Rattle.record.specs.Leaves.{moving}
 use Rattle.record.specs.Fields.{top}
 use Rattle.wholeness.specs.Whole.{whole}
-use Rattle.staging.specs.Opening.{opening, openStep}
-use Rattle.settling.specs.Ending.{settled}
+use Rattle.step_begins.specs.Opening.{opening, openStep}
+use Rattle.step_ends.specs.Ending.{idleAt}
 use Rattle.log.specs.Log.{logSized, roomOf, blank}
-use Rattle.recording.specs.Recorded.{withLog}
+use Rattle.noting.specs.Recorded.{withLog}
 use Rattle.calls.specs.Lending.{Lending, leavesOf, unopened}
-use Rattle.recording.specs.Through.{leavesThrough}
+use Rattle.noting.specs.Through.{leavesThrough}
 use Rattle.demands.proofs.Wholeness.{whole-test}
 use Rattle.demands.proofs.Advancing.{idles}
 use Rattle.demands.proofs.Granting.{clash}
@@ -30,7 +30,7 @@ use Rattle.clauses.proofs.Lendings.{payload-copied}
 
 -- an opening is whole
 opening-whole : (v s l : ℕ) → v ≤ top → l ≤ areaSize → whole (opening v s l) ≡ true
-unfolding opening settled
+unfolding opening idleAt
 opening-whole v s l m h = whole-test (idles v l (opening v s l) m h)
 
 pub open-clauses : (sizes : Bool) (v s l : ℕ) → v ≤ top → OpenClauses sizes v s l (openStep sizes v s l)

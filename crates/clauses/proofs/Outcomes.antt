@@ -14,8 +14,8 @@ use Rattle.record.specs.declared.Record.{Record}
 use Rattle.record.specs.declared.Outcome.{Outcome}
 use Rattle.record.specs.declared.Outcome.the-variants as O
 use Rattle.wholeness.specs.Whole.{whole}
-use Rattle.reporting.specs.Done.{structureDone, updateDone, rollbackDone}
-use Rattle.reporting.specs.Reports.{storing, reported, reportStructureOwn}
+use Rattle.step_reports.specs.Done.{structureDone, updateDone, rollbackDone}
+use Rattle.step_reports.specs.Reports.{storing, reported, reportStructureOwn}
 use Rattle.calls.specs.Calls.{step}
 use Rattle.calls.specs.Calls.Report.{structured, updated, rolledBack}
 use Rattle.calls.specs.Calls.Call.{report}

@@ -11,14 +11,14 @@ use Rattle.record.specs.Leaves.{moving}
 use Rattle.record.specs.declared.Record.{Record}
 use Rattle.record.specs.declared.Outcome.{Outcome}
 use Rattle.wholeness.specs.Gates.{gateOf, gated}
-use Rattle.reporting.specs.Reports.{behind, reportGate}
+use Rattle.step_reports.specs.Reports.{behind, reportGate}
 use Rattle.calls.specs.Calls.{step, Work}
 use Rattle.calls.specs.Calls.Work.{structure, update, rollback}
 use Rattle.calls.specs.Calls.Report.{structured, updated, rolledBack}
 use Rattle.calls.specs.Calls.Call.{begin, ask, report, commit, recover, recoverRetained, refresh}
 use Rattle.calls.specs.Lending.{Stored, Lending, leavesOf}
 use Rattle.calls.specs.Kinds.{kindOf, stepWritten, callWritten, writtenAs}
-use Rattle.recording.specs.Through.{leavesThrough}
+use Rattle.noting.specs.Through.{leavesThrough}
 use Rattle.clauses.specs.Recording.{Through}
 use Rattle.clauses.proofs.Recordings.{joined}
 

@@ -16,7 +16,7 @@ use Rattle.record.specs.declared.Refusal.the-variants.{BadArea, Damaged}
 use Rattle.record.proofs.Saying.{refused-number}
 use Rattle.wholeness.specs.Whole.{whole}
 use Rattle.log.specs.Log.{sound, appended}
-use Rattle.recording.specs.Recorded.{withLog, recorded}
+use Rattle.noting.specs.Recorded.{withLog, recorded}
 use Rattle.calls.specs.Calls.{Call, stepWith}
 use Rattle.calls.specs.Kinds.{callWritten}
 use Rattle.demands.proofs.Unseen.{quiet}

@@ -14,8 +14,8 @@ use Rattle.record.specs.declared.Record.{Record}
 use Rattle.record.specs.declared.Refusal.{Refusal}
 use Rattle.record.specs.declared.Refusal.the-variants.{Pending, TooLong}
 use Rattle.wholeness.specs.Whole.{whole}
-use Rattle.settling.specs.Ending.{refreshOwn}
-use Rattle.stamping.specs.Stamping.{passes}
+use Rattle.step_ends.specs.Ending.{refreshOwn}
+use Rattle.step_stamps.specs.Stamping.{passes}
 use Rattle.calls.specs.Calls.{step}
 use Rattle.calls.specs.Calls.Call.{refresh, stamp, check}
 use Rattle.demands.proofs.Own.{own}

@@ -12,11 +12,11 @@ use Rattle.record.specs.declared.Record.{Record}
 use Rattle.record.specs.declared.Outcome.{Outcome}
 use Rattle.record.specs.declared.Outcome.the-variants as O
 use Rattle.wholeness.specs.Whole.{whole}
-use Rattle.staging.specs.Beginning.{beginOwn, editOwn}
-use Rattle.asking.specs.Asks.{askStructureOwn, askUpdateOwn, askRollbackOwn}
-use Rattle.reporting.specs.Done.{structureDone, updateDone, rollbackDone}
-use Rattle.reporting.specs.Reports.{reported, reportStructureOwn}
-use Rattle.settling.specs.Ending.{commitOwn, recoverOwn, recoverRetainedOwn, refreshOwn}
+use Rattle.step_begins.specs.Beginning.{beginOwn, editOwn}
+use Rattle.step_asks.specs.Asks.{askStructureOwn, askUpdateOwn, askRollbackOwn}
+use Rattle.step_reports.specs.Done.{structureDone, updateDone, rollbackDone}
+use Rattle.step_reports.specs.Reports.{reported, reportStructureOwn}
+use Rattle.step_ends.specs.Ending.{commitOwn, recoverOwn, recoverRetainedOwn, refreshOwn}
 use Rattle.calls.specs.Calls.{Call, step}
 use Rattle.calls.specs.Calls.Work.{structure, update, rollback}
 use Rattle.calls.specs.Calls.Report.{structured, updated, rolledBack}

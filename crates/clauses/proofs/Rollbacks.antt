@@ -14,9 +14,9 @@ use Rattle.record.specs.declared.Record.{Record}
 use Rattle.record.specs.declared.Outcome.{Outcome}
 use Rattle.record.specs.declared.Outcome.the-variants as O
 use Rattle.wholeness.specs.Whole.{whole}
-use Rattle.asking.specs.Asks.{turned, askRollbackOwn}
-use Rattle.reporting.specs.Done.{leaving, rollbackDone}
-use Rattle.reporting.specs.Reports.{reported}
+use Rattle.step_asks.specs.Asks.{turned, askRollbackOwn}
+use Rattle.step_reports.specs.Done.{leaving, rollbackDone}
+use Rattle.step_reports.specs.Reports.{reported}
 use Rattle.calls.specs.Calls.{step}
 use Rattle.calls.specs.Calls.Work.{rollback}
 use Rattle.calls.specs.Calls.Report.{rolledBack}

@@ -10,7 +10,7 @@ use Rattle.choice.specs.Pick.{pick}
 use Rattle.choice.proofs.Tests.{test, both}
 use Rattle.record.specs.Fields.{top}
 use Rattle.record.specs.declared.Record.{Record}
-use Rattle.staging.specs.Opening.{openStep}
+use Rattle.step_begins.specs.Opening.{openStep}
 use Rattle.calls.specs.Calls.{step}
 use Rattle.calls.specs.Calls.Call.{recover}
 use Rattle.demands.specs.Sending.{Sent, afterSent, heardSent}

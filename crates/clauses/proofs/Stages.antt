@@ -13,12 +13,12 @@ use Rattle.record.specs.Live as Tickets
 use Rattle.record.specs.Fields.{top, spent, adopting}
 use Rattle.record.specs.declared.Record.{Record}
 use Rattle.record.specs.declared.Outcome.the-variants as O
-use Rattle.staging.specs.Opening.{opening, openStep}
-use Rattle.staging.specs.Beginning.{begun}
-use Rattle.asking.specs.Asks.{turned}
-use Rattle.reporting.specs.Done.{advanced, leaving}
-use Rattle.reporting.specs.Reports.{storing}
-use Rattle.settling.specs.Ending.{settled}
+use Rattle.step_begins.specs.Opening.{opening, openStep}
+use Rattle.step_begins.specs.Beginning.{begun}
+use Rattle.step_asks.specs.Asks.{turned}
+use Rattle.step_reports.specs.Done.{advanced, leaving}
+use Rattle.step_reports.specs.Reports.{storing}
+use Rattle.step_ends.specs.Ending.{idleAt}
 use Rattle.calls.specs.Calls.{Call}
 use Rattle.demands.specs.Sending.{Sent, afterSent, heardSent}
 use Rattle.demands.specs.Watching.{Watch, settles, applies, undoes, reported, sees, watch, unwatched}
@@ -69,7 +69,7 @@ module _ {r : Record} (w : Watch) (h : Whole r) (d : Tied w r) (s : Listed w r) 
   for-rollback t l = let q : (w .ticket ≡ t) × (w .item ≡ undo (r .entries - 1)) = rw (is-rollback (r .live) t l) at (d .last) in ap stageOf (q .1)
 
   steps : {c : Call} {x : Told} → Leaf r c x → Listed (sees w c (said (x .number) (x .values))) (x .state)
-  unfolding sees begun turned adopting leaving settled pick _or_
+  unfolding sees begun turned adopting leaving idleAt pick _or_
   steps (kept u) = rw (u w) s
   steps (began z i l c o m) = none
   steps (beganStructural z i l c o m) = none

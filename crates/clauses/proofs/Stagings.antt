@@ -16,7 +16,7 @@ use Rattle.record.specs.declared.Was.the-variants.{Nothing}
 use Rattle.record.specs.declared.Refusal.{Refusal}
 use Rattle.record.specs.declared.Refusal.the-variants.{Pending, Idle, Capacity, TooLong, TooMany}
 use Rattle.wholeness.specs.Whole.{whole}
-use Rattle.staging.specs.Beginning.{firstPhase, begun, beginOwn, editOwn}
+use Rattle.step_begins.specs.Beginning.{firstPhase, begun, beginOwn, editOwn}
 use Rattle.calls.specs.Calls.{step}
 use Rattle.calls.specs.Calls.Call.{begin, edit}
 use Rattle.demands.proofs.Own.{own}

@@ -16,9 +16,9 @@ use Rattle.record.specs.declared.Refusal.{Refusal}
 use Rattle.record.specs.declared.Refusal.the-variants.{Idle, Stale, TooLong}
 use Rattle.record.proofs.Saying.{refused-number}
 use Rattle.wholeness.specs.Whole.{whole}
-use Rattle.staging.specs.Beginning.{editOwn}
-use Rattle.reporting.specs.Done.{onward, advanced, structureDone}
-use Rattle.reporting.specs.Reports.{storing, reported, reportStructureOwn}
+use Rattle.step_begins.specs.Beginning.{editOwn}
+use Rattle.step_reports.specs.Done.{onward, advanced, structureDone}
+use Rattle.step_reports.specs.Reports.{storing, reported, reportStructureOwn}
 use Rattle.calls.specs.Calls.{step}
 use Rattle.calls.specs.Calls.Report.{structured}
 use Rattle.calls.specs.Calls.Call.{report, edit}

@@ -15,9 +15,9 @@ use Rattle.record.specs.declared.Record.{Record}
 use Rattle.record.specs.declared.Outcome.{Outcome}
 use Rattle.record.specs.declared.Outcome.the-variants as O
 use Rattle.wholeness.specs.Whole.{whole}
-use Rattle.asking.specs.Asks.{askStructureOwn}
-use Rattle.reporting.specs.Done.{structureDone}
-use Rattle.reporting.specs.Reports.{storing, reported, reportStructureOwn}
+use Rattle.step_asks.specs.Asks.{askStructureOwn}
+use Rattle.step_reports.specs.Done.{structureDone}
+use Rattle.step_reports.specs.Reports.{storing, reported, reportStructureOwn}
 use Rattle.calls.specs.Calls.{step}
 use Rattle.calls.specs.Calls.Work.{structure}
 use Rattle.calls.specs.Calls.Report.{structured}

@@ -11,7 +11,7 @@ use Rattle.choice.proofs.Tests.{both}
 use Rattle.record.specs.Fields.{top}
 use Rattle.record.specs.declared.Record.{Record}
 use Rattle.wholeness.specs.Whole.{complete}
-use Rattle.staging.specs.Opening.{openStep}
+use Rattle.step_begins.specs.Opening.{openStep}
 use Rattle.calls.specs.Calls.{step}
 use Rattle.calls.specs.Calls.Call.{commit}
 use Rattle.demands.specs.Sending.{Sent, afterSent, heardSent}

@@ -16,9 +16,9 @@ use Rattle.record.specs.declared.Record.{Record}
 use Rattle.record.specs.declared.Outcome.{Outcome}
 use Rattle.record.specs.declared.Outcome.the-variants as O
 use Rattle.wholeness.specs.Whole.{whole, complete}
-use Rattle.asking.specs.Asks.{askUpdateOwn}
-use Rattle.reporting.specs.Done.{updateDone}
-use Rattle.reporting.specs.Reports.{reported}
+use Rattle.step_asks.specs.Asks.{askUpdateOwn}
+use Rattle.step_reports.specs.Done.{updateDone}
+use Rattle.step_reports.specs.Reports.{reported}
 use Rattle.calls.specs.Calls.{step}
 use Rattle.calls.specs.Calls.Work.{update}
 use Rattle.calls.specs.Calls.Report.{updated}

@@ -12,7 +12,7 @@ use Rattle.phases.specs.Phases.{none, ready, recovered}
 use Rattle.record.specs.Answers.{Told, refused}
 use Rattle.record.specs.declared.Record.{Record}
 use Rattle.wholeness.specs.Whole.{whole, complete}
-use Rattle.staging.specs.Opening.{opening}
+use Rattle.step_begins.specs.Opening.{opening}
 use Rattle.clauses.specs.Keeping.{gained, SameStaged, SameBatch}
 
 -- staged, the batch complete, and the phase none or `Ready`

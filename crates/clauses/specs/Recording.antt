@@ -12,7 +12,7 @@ use Rattle.record.specs.declared.Record.{Record}
 use Rattle.record.specs.declared.Refusal.the-variants.{BadArea, Damaged, LogFull}
 use Rattle.wholeness.specs.Whole.{whole}
 use Rattle.log.specs.Log.{count, full, sound, event}
-use Rattle.recording.specs.Recorded.{withLog}
+use Rattle.noting.specs.Recorded.{withLog}
 use Rattle.events.specs.Entries.{logOf}
 use Rattle.clauses.specs.Lending.{payload}
 

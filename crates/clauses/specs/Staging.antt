@@ -11,7 +11,7 @@ use Rattle.record.specs.Answers.{Told, refused}
 use Rattle.record.specs.Fields.{top, withLengths}
 use Rattle.record.specs.declared.Record.{Record}
 use Rattle.wholeness.specs.Whole.{whole}
-use Rattle.staging.specs.Opening.{opening}
+use Rattle.step_begins.specs.Opening.{opening}
 use Rattle.clauses.specs.Keeping.{gained, SameBatch, Framed}
 
 -- `new`, opened at revision v and serial s with a payload of length l, the areas of the right size or not

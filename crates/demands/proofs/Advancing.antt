@@ -7,9 +7,9 @@ use Rattle.phases.specs.Phases.{hasSuccessor}
 use Rattle.areas.specs.Areas.{areaSize}
 use Rattle.record.specs.Fields.{top, spent}
 use Rattle.record.specs.declared.Record.{Record}
-use Rattle.reporting.specs.Done.{advanced}
-use Rattle.reporting.specs.Reports.{storing}
-use Rattle.settling.specs.Ending.{settled}
+use Rattle.step_reports.specs.Done.{advanced}
+use Rattle.step_reports.specs.Reports.{storing}
+use Rattle.step_ends.specs.Ending.{idleAt}
 use Rattle.demands.proofs.Leaf.{Apart}
 use Rattle.demands.proofs.Facts.{Lengths, Whole, byCase}
 use Rattle.demands.proofs.Facts.Stage.{flat}
@@ -42,8 +42,8 @@ advances {r} {new} {old} w y i j =
     })
 
 -- idle, with a revision and an accepted length
-pub idles : (v a : ℕ) (r : Record) → v ≤ top → a ≤ areaSize → Whole (settled v a r)
-unfolding settled
+pub idles : (v a : ℕ) (r : Record) → v ≤ top → a ≤ areaSize → Whole (idleAt v a r)
+unfolding idleAt
 idles v a r m l = record {
   lengths = record { accepted = l; candidate = omega arith; recovery = omega arith };
   size = omega arith;

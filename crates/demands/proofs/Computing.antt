@@ -14,17 +14,17 @@ use Rattle.record.specs.Fields.{adopting}
 use Rattle.record.specs.declared.Record.{Record}
 use Rattle.wholeness.specs.Whole.{lengthsFit, countsFit, stagedFits, forwardFits, backFits, restoringFits, liveFits, whole, complete}
 use Rattle.wholeness.specs.Gates.{gateOf, gated}
-use Rattle.staging.specs.Opening.{opening, openStep}
-use Rattle.staging.specs.Beginning.{firstPhase, begun, beginOwn, editOwn}
-use Rattle.asking.specs.Asks.{askStructureOwn, askUpdateOwn, askRollbackOwn, turned}
-use Rattle.reporting.specs.Done.{onward, advanced, structureDone, updateDone, least, leaving, rollbackDone}
-use Rattle.reporting.specs.Reports.{behind, reportGate, reported, reportStructureOwn}
-use Rattle.settling.specs.Ending.{settled, commitOwn, unrestored, recoverOwn, recoverRetainedOwn, refreshOwn}
-use Rattle.stamping.specs.Stamping.{stampStep, passes, checkStep}
+use Rattle.step_begins.specs.Opening.{opening, openStep}
+use Rattle.step_begins.specs.Beginning.{firstPhase, begun, beginOwn, editOwn}
+use Rattle.step_asks.specs.Asks.{askStructureOwn, askUpdateOwn, askRollbackOwn, turned}
+use Rattle.step_reports.specs.Done.{onward, advanced, structureDone, updateDone, least, leaving, rollbackDone}
+use Rattle.step_reports.specs.Reports.{behind, reportGate, reported, reportStructureOwn}
+use Rattle.step_ends.specs.Ending.{idleAt, commitOwn, unrestored, recoverOwn, recoverRetainedOwn, refreshOwn}
+use Rattle.step_stamps.specs.Stamping.{stampStep, passes, checkStep}
 use Rattle.log.specs.Log.{logSized, headSound, sound, full, appended, blank}
 use Rattle.events.specs.Entries.{noted}
-use Rattle.recording.specs.Recorded.{withLog, recorded}
-use Rattle.recording.specs.Through.{leavesThrough}
+use Rattle.noting.specs.Recorded.{withLog, recorded}
+use Rattle.noting.specs.Through.{leavesThrough}
 use Rattle.calls.specs.Calls.{Call, step}
 use Rattle.calls.specs.Kinds.{kindOf, stepWritten, callWritten, writtenAs}
 use Rattle.demands.specs.Chains.{Heard, hears}
@@ -36,7 +36,7 @@ use Rattle.demands.specs.Watching.{Watch, performed, granted, sees, watc
 
 -- a call on a record
 unfoldable pub called : Record → Call → Told
-unfolding pick _and_ _or_ _implies_ hasSuccessor successor boundary long isLive adopting lengthsFit countsFit stagedFits forwardFits backFits restoringFits liveFits whole complete gateOf gated opening openStep firstPhase begun beginOwn editOwn askStructureOwn askUpdateOwn askRollbackOwn turned onward advanced structureDone updateDone least leaving rollbackDone behind reportGate reported reportStructureOwn settled commitOwn unrestored recoverOwn recoverRetainedOwn refreshOwn stampStep passes checkStep
+unfolding pick _and_ _or_ _implies_ hasSuccessor successor boundary long isLive adopting lengthsFit countsFit stagedFits forwardFits backFits restoringFits liveFits whole complete gateOf gated opening openStep firstPhase begun beginOwn editOwn askStructureOwn askUpdateOwn askRollbackOwn turned onward advanced structureDone updateDone least leaving rollbackDone behind reportGate reported reportStructureOwn idleAt commitOwn unrestored recoverOwn recoverRetainedOwn refreshOwn stampStep passes checkStep
 called r c = step r c
 
 abbrev pub performs : Record → Call → Bool

@@ -10,7 +10,7 @@ use Rattle.choice.proofs.Tests.{never, eqb-ne}
 use Rattle.record.specs.Fields.{top}
 use Rattle.record.specs.declared.Record.{Record}
 use Rattle.record.specs.declared.Outcome.the-variants.{Waiting, Failed, Done}
-use Rattle.staging.specs.Opening.{openStep}
+use Rattle.step_begins.specs.Opening.{openStep}
 use Rattle.calls.specs.Calls.{Call}
 use Rattle.calls.specs.Calls.Work.{structure, update, rollback}
 use Rattle.calls.specs.Calls.Report.{structured, updated, rolledBack}

@@ -10,7 +10,7 @@ use Rattle.choice.proofs.Tests.{never}
 use Rattle.record.specs.Answers.{Said, refused}
 use Rattle.record.specs.declared.Record.{Record}
 use Rattle.wholeness.specs.Whole.{whole}
-use Rattle.stamping.specs.Stamping.{passes, checkStep}
+use Rattle.step_stamps.specs.Stamping.{passes, checkStep}
 use Rattle.calls.specs.Calls.{stepWith, AnyCall, stepOf}
 use Rattle.calls.specs.Calls.Work.{structure, update, rollback}
 use Rattle.calls.specs.Calls.Report.{structured, updated, rolledBack}

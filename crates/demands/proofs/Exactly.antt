@@ -15,7 +15,7 @@ use Rattle.record.specs.declared.Was.the-variants.{Three}
 use Rattle.record.specs.declared.Answer.the-variants.{Done}
 use Rattle.record.specs.declared.Refusal.the-variants.{Idle, NotReady}
 use Rattle.wholeness.specs.Whole.{complete}
-use Rattle.settling.specs.Ending.{settled, commitOwn, unrestored, recoverRetainedOwn}
+use Rattle.step_ends.specs.Ending.{idleAt, commitOwn, unrestored, recoverRetainedOwn}
 use Rattle.calls.specs.Calls.{step}
 use Rattle.calls.specs.Calls.Call.{commit, recoverRetained}
 use Rattle.demands.specs.Watching.{Item, Watch}
@@ -52,14 +52,14 @@ module _ {r : Record} (w : Whole r) (e : r .staged ≡ true) where
   unfolding own commitOwn complete _and_ _or_
   commit-is =
       ap (λ (t : Told). eqb (t .number) 0) (undamaged commit w)
-      ∙ closes (r .staged) (not (complete r)) (eqb (r .phase .number) 0 or eqb (r .phase .number) 7) r (settled (r .revision + 1) (r .candidate) r) (Three (r .accepted) (r .recovery) (r .entries)) e
+      ∙ closes (r .staged) (not (complete r)) (eqb (r .phase .number) 0 or eqb (r .phase .number) 7) r (idleAt (r .revision + 1) (r .candidate) r) (Three (r .accepted) (r .recovery) (r .entries)) e
       ∙ ap (λ (b : Bool). (eqb (r .phase .number) 0 || eqb (r .phase .number) 7) && b) (not-not _)
 
   pub recover-is : eqb (step r recoverRetained .number) 0 ≡ (eqb (r .phase .number) 0 || eqb (r .phase .number) 13) && not (ltb 0 (r .entries))
   unfolding own recoverRetainedOwn unrestored _or_
   recover-is =
       ap (λ (t : Told). eqb (t .number) 0) (undamaged recoverRetained w)
-      ∙ closes (r .staged) (ltb 0 (r .entries)) (eqb (r .phase .number) 0 or eqb (r .phase .number) 13) r (settled (r .revision) (r .recovery) r) (Three (r .accepted) (r .candidate) (r .recovery)) e
+      ∙ closes (r .staged) (ltb 0 (r .entries)) (eqb (r .phase .number) 0 or eqb (r .phase .number) 13) r (idleAt (r .revision) (r .recovery) r) (Three (r .accepted) (r .candidate) (r .recovery)) e
 
 -- commit, by the rows
 commit-row : {p f b n a k : ℕ} {v s : Bool} → Stage p f b n a k v → Kind s p → v ≡ false → a ≤ k → k ≤ n →

@@ -3,13 +3,13 @@ use Prim.Native.Nat.{ℕ}
 use mathlib.Core.Path.{_≡_, refl}
 use mathlib.Core.Bool.{Bool, true, false, _&&_}
 use mathlib.Core.List.{List, [], _∷_, map}
-use Rattle.record.specs.Live.{kind}
+use Rattle.record.specs.Live.{workOf}
 use Rattle.record.specs.Fields.{withTicket, withPlace, withBatch, withSettings}
 use Rattle.record.specs.declared.Record.{Record}
 use Rattle.record.specs.declared.Live.{Live}
 use Rattle.record.specs.declared.Live.the-variants.{None, Structure, Update, Rollback}
 use Rattle.wholeness.specs.Whole.{whole}
-use Rattle.staging.specs.Opening.{opening}
+use Rattle.step_begins.specs.Opening.{opening}
 use Rattle.demands.proofs.Computing.{called}
 
 -- a staged record at serial 1: phase, forward, back; entries, applied, attempted, restoring; the live ticket
@@ -59,6 +59,6 @@ pub kinds-whole : allWhole kinds ≡ true
 unfolding kinds staged called
 kinds-whole = refl
 
-pub kinds-all : map (λ (r : Record). kind (r .live)) kinds ≡ 0 ∷ 1 ∷ 2 ∷ 3 ∷ []
+pub kinds-all : map (λ (r : Record). workOf (r .live)) kinds ≡ 0 ∷ 1 ∷ 2 ∷ 3 ∷ []
 unfolding kinds staged opening
 kinds-all = refl

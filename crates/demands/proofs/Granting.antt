@@ -12,7 +12,7 @@ use Rattle.record.specs.Answers.{Told, said}
 use Rattle.record.specs.Fields.{top}
 use Rattle.record.specs.declared.Record.{Record}
 use Rattle.wholeness.specs.Whole.{whole}
-use Rattle.asking.specs.Asks.{askStructureOwn, askUpdateOwn, askRollbackOwn}
+use Rattle.step_asks.specs.Asks.{askStructureOwn, askUpdateOwn, askRollbackOwn}
 use Rattle.calls.specs.Calls.{Call, step}
 use Rattle.calls.specs.Calls.Work.{structure, update, rollback}
 use Rattle.calls.specs.Calls.Call.{begin, ask, report, edit, commit, recover, recoverRetained, refresh, stamp, check}

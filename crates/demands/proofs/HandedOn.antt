@@ -14,8 +14,8 @@ use Rattle.record.specs.declared.Refusal.the-variants.{LogFull}
 use Rattle.calls.specs.Calls.{AnyCall}
 use Rattle.calls.specs.Calls.AnyCall.{opens, calls}
 use Rattle.calls.specs.Lending.{callOf, lent, moved, leavesOf}
-use Rattle.recording.specs.Recorded.{recorded}
-use Rattle.recording.specs.Through.{inner, logs, leavesThrough}
+use Rattle.noting.specs.Recorded.{recorded}
+use Rattle.noting.specs.Through.{inner, logs, leavesThrough}
 use Rattle.demands.specs.Holding.{Held, Given, lends, keeps, after, does}
 use Rattle.demands.specs.Holding.Payload.{structured, updated, rolledBack}
 use Rattle.demands.specs.Holding.Given.{begin, ask, report, edit, commit, recover, recoverRetained, refresh, stamp, check}

@@ -7,12 +7,12 @@ use Rattle.choice.specs.Pick.{pick}
 use Rattle.record.specs.Answers.{said}
 use Rattle.record.specs.Fields.{top}
 use Rattle.record.specs.declared.Record.{Record}
-use Rattle.staging.specs.Opening.{openStep}
+use Rattle.step_begins.specs.Opening.{openStep}
 use Rattle.calls.specs.Calls.{step}
 use Rattle.calls.specs.Calls.Call.{stamp, check}
 use Rattle.calls.specs.Lending.{leavesOf, unopened}
 use Rattle.calls.specs.Lending.Lending.{openAt}
-use Rattle.recording.specs.Through.{leavesThrough}
+use Rattle.noting.specs.Through.{leavesThrough}
 use Rattle.demands.specs.Chains.{hears}
 use Rattle.demands.specs.Sending.{Sent, afterSent, heardSent}
 use Rattle.demands.specs.Watching.{Watch, watch, unwatched}

@@ -10,7 +10,7 @@ use Rattle.record.specs.declared.Record.{Record}
 use Rattle.calls.specs.Calls.{Call, AnyCall}
 use Rattle.calls.specs.Calls.AnyCall.{opens, calls}
 use Rattle.calls.specs.Lending.{callOf, leavesOf}
-use Rattle.recording.specs.Through.{leavesThrough}
+use Rattle.noting.specs.Through.{leavesThrough}
 use Rattle.demands.specs.Chains.{Heard, hears}
 use Rattle.demands.specs.Sending.{Sent, answeredAny, afterSent, heardSent}
 use Rattle.demands.specs.Holding.{Held, Given, Doing, lends, does, hearing, tells, sending, sends, afterHeld, heardHeld, sentHeld}

@@ -20,9 +20,9 @@ use Rattle.record.specs.declared.Live.the-variants.{Structure, Update, Rollback
 use Rattle.record.specs.declared.Outcome.the-variants.{Done}
 use Rattle.record.specs.declared.Answer.the-variants.{More, Finished}
 use Rattle.wholeness.specs.Whole.{whole}
-use Rattle.asking.specs.Asks.{askStructureOwn, askUpdateOwn, askRollbackOwn, turned}
-use Rattle.reporting.specs.Done.{structureDone, updateDone, rollbackDone}
-use Rattle.reporting.specs.Reports.{reported, reportStructureOwn}
+use Rattle.step_asks.specs.Asks.{askStructureOwn, askUpdateOwn, askRollbackOwn, turned}
+use Rattle.step_reports.specs.Done.{structureDone, updateDone, rollbackDone}
+use Rattle.step_reports.specs.Reports.{reported, reportStructureOwn}
 use Rattle.calls.specs.Calls.{Call, step}
 use Rattle.calls.specs.Calls.Work.{structure, update, rollback}
 use Rattle.calls.specs.Calls.Report.{structured, updated, rolledBack}

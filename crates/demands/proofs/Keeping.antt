@@ -11,7 +11,7 @@ use Rattle.record.specs.Fields.{withPlace}
 use Rattle.record.specs.declared.Record.{Record}
 use Rattle.record.specs.declared.Outcome.{Outcome}
 use Rattle.record.specs.declared.Outcome.the-variants as O
-use Rattle.reporting.specs.Done.{onward}
+use Rattle.step_reports.specs.Done.{onward}
 use Rattle.demands.specs.Watching.{Item, Watch, lists, reported}
 
 -- of the watcher, a report that is seen changes the two lists alone

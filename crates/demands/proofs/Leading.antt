@@ -5,7 +5,7 @@ use mathlib.Core.Bool.{true, false}
 use mathlib.Core.List.{List, [], _∷_, _++_, map}
 use native.Mathlib.Omega.{arith}
 use Rattle.record.specs.declared.Outcome.the-variants.{Waiting, Done}
-use Rattle.staging.specs.Opening.{opening}
+use Rattle.step_begins.specs.Opening.{opening}
 use Rattle.calls.specs.Calls.Work.{structure, update, rollback}
 use Rattle.calls.specs.Calls.Report.{structured, rolledBack}
 use Rattle.calls.specs.Calls.Call.{begin, ask, report, commit}

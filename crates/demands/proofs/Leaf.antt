@@ -18,11 +18,11 @@ use Rattle.record.specs.declared.Live.the-variants.{Structure, Update, Rollback
 use Rattle.record.specs.declared.Outcome.the-variants as O
 use Rattle.record.specs.declared.Answer.the-variants.{Done, More, Finished}
 use Rattle.record.specs.declared.Was.the-variants.{Nothing, One, Three}
-use Rattle.staging.specs.Beginning.{begun}
-use Rattle.asking.specs.Asks.{issue, started, turned}
-use Rattle.reporting.specs.Done.{advanced, raised, lowered, leaving}
-use Rattle.reporting.specs.Reports.{storing}
-use Rattle.settling.specs.Ending.{settled, recoveredTo}
+use Rattle.step_begins.specs.Beginning.{begun}
+use Rattle.step_asks.specs.Asks.{issue, started, turned}
+use Rattle.step_reports.specs.Done.{advanced, raised, lowered, leaving}
+use Rattle.step_reports.specs.Reports.{storing}
+use Rattle.step_ends.specs.Ending.{idleAt, recoveredTo}
 use Rattle.calls.specs.Calls.{Call}
 use Rattle.calls.specs.Calls.Work.{structure, update, rollback}
 use Rattle.calls.specs.Calls.Report.{structured, updated, rolledBack}
@@ -59,7 +59,7 @@ pub data Leaf (r : Record) : Call → Told → Type 0 where
   undoLast : {t : ℕ} → isLive Tickets.rollback t (r .live) ≡ true → r .entries - 1 ≡ 0 → Leaf r (report rolledBack t O.Done) (answer Finished (leaving (lowered (spent r))))
   undoMore : {t : ℕ} → isLive Tickets.rollback t (r .live) ≡ true → r .entries - 1 ≢ 0 → Leaf r (report rolledBack t O.Done) (answer More (lowered (spent r)))
   edited : {c o : ℕ} → c ≤ areaSize → o ≤ areaSize → Leaf r (edit c o) (answer (Done Nothing) (withLengths (r .accepted) c o r))
-  committed : r .staged ≡ true → Leaf r commit (answer (Done (Three (r .accepted) (r .recovery) (r .entries))) (settled (r .revision + 1) (r .candidate) r))
+  committed : r .staged ≡ true → Leaf r commit (answer (Done (Three (r .accepted) (r .recovery) (r .entries))) (idleAt (r .revision + 1) (r .candidate) r))
   recovered : {n : ℕ} → n ≤ areaSize → Leaf r (recover n) (recoveredTo n r)
   restored : Leaf r recoverRetained (recoveredTo (r .recovery) r)
   refreshed : {n : ℕ} → n ≤ areaSize → Leaf r (refresh n) (answer (Done (One (r .accepted))) (withLengths n (r .candidate) (r .recovery) r))

@@ -12,7 +12,7 @@ use Rattle.record.specs.Leaves.{Leaves, leaves}
 use Rattle.record.specs.declared.Record.{Record}
 use Rattle.record.specs.declared.Refusal.the-variants.{LogFull}
 use Rattle.log.specs.Log.{full}
-use Rattle.recording.specs.Recorded.{recorded}
+use Rattle.noting.specs.Recorded.{recorded}
 use Rattle.events.specs.Entries.{logOf}
 use Rattle.events.proofs.Noting.{full-changes-nothing}
 use Rattle.calls.specs.Calls.{Call, stepWith}

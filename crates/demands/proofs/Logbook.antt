@@ -9,7 +9,7 @@ use native.Mathlib.Omega.{arith}
 use Rattle.record.specs.Leaves.{Leaves}
 use Rattle.events.specs.Entries.{logOf}
 use Rattle.calls.specs.Lending.{Lending, unopened}
-use Rattle.recording.specs.Through.{leavesThrough}
+use Rattle.noting.specs.Through.{leavesThrough}
 use Rattle.demands.specs.Watching.{watch, unwatched}
 use Rattle.demands.specs.DemandThree.{DemandThree}
 use Rattle.demands.specs.Holding.{Held, Doing, holding, afterHeld, heardHeld}

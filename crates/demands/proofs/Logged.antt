@@ -15,8 +15,8 @@ use Rattle.calls.specs.Calls.{Call, AnyCall, stepOf}
 use Rattle.calls.specs.Calls.AnyCall.{opens, calls}
 use Rattle.calls.specs.Lending.{Lending, callOf, lent, fits, moved}
 use Rattle.calls.specs.Kinds.{kindOf, kindOfAny, writtenAs}
-use Rattle.recording.specs.Recorded.{withLog, besides, recorded}
-use Rattle.recording.specs.Through.{inner, logs, leavesThrough}
+use Rattle.noting.specs.Recorded.{withLog, besides, recorded}
+use Rattle.noting.specs.Through.{inner, logs, leavesThrough}
 use Rattle.demands.specs.Refusals.{returned}
 use Rattle.demands.specs.Through.{entered, logAfter}
 use Rattle.demands.proofs.ExactRefusals.{refusal-returns}

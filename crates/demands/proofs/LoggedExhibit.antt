@@ -13,7 +13,7 @@ use Rattle.record.specs.declared.Outcome.the-variants.{Done}
 use Rattle.wholeness.specs.Whole.{whole}
 use Rattle.log.specs.Log.{sound, blank}
 use Rattle.events.specs.Entries.{entry, entries, logOf}
-use Rattle.recording.specs.Through.{leavesThrough}
+use Rattle.noting.specs.Through.{leavesThrough}
 use Rattle.calls.specs.Calls.{Call}
 use Rattle.calls.specs.Calls.Work.{structure, update}
 use Rattle.calls.specs.Calls.Report.{updated}

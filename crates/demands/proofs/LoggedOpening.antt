@@ -11,16 +11,16 @@ use Rattle.choice.proofs.Tests.{never, both}
 use Rattle.areas.specs.Areas.{sized, copied}
 use Rattle.record.specs.Answers.{refused}
 use Rattle.record.specs.Leaves.{Leaves, leaves}
-use Rattle.staging.specs.Opening.{openStep}
+use Rattle.step_begins.specs.Opening.{openStep}
 use Rattle.log.specs.Log.{logSized, count, room, roomOf, sound, blank}
 use Rattle.events.specs.Entries.{Entry, entries, logOf}
 use Rattle.events.proofs.Soundness.{blank-length, blank-count, blank-room, blank-sound}
 use Rattle.events.proofs.Entries.{none-opened}
-use Rattle.recording.specs.Recorded.{withLog}
+use Rattle.noting.specs.Recorded.{withLog}
 use Rattle.calls.specs.Calls.{Call}
 use Rattle.calls.specs.Lending.{Lending, leavesOf, unopened}
 use Rattle.calls.specs.Kinds.{kindOf, writtenAs}
-use Rattle.recording.specs.Through.{leavesThrough}
+use Rattle.noting.specs.Through.{leavesThrough}
 use Rattle.demands.specs.Logged.{logged, events}
 use Rattle.demands.proofs.LoggedChains.{Same, same-chain}
 

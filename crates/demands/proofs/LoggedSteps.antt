@@ -15,7 +15,7 @@ use Rattle.record.specs.declared.Record.{Record}
 use Rattle.log.specs.Log.{logSized, count, room, sound, full}
 use Rattle.events.specs.Entries.{Entry, entries, logOf, noted}
 use Rattle.log.proofs.Room.{not-full}
-use Rattle.recording.specs.Recorded.{recorded}
+use Rattle.noting.specs.Recorded.{recorded}
 use Rattle.events.proofs.Laws.{stays-sound, same-length}
 use Rattle.events.proofs.Noting.{noted-one, noted-none, same-told, noted-last}
 use Rattle.calls.specs.Calls.{Call, stepWith, step}

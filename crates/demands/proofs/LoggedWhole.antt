@@ -10,7 +10,7 @@ use Rattle.record.specs.Fields.{top}
 use Rattle.record.specs.declared.Record.{Record}
 use Rattle.wholeness.specs.Whole.{whole}
 use Rattle.log.specs.Log.{logSized, sound}
-use Rattle.recording.specs.Recorded.{recorded}
+use Rattle.noting.specs.Recorded.{recorded}
 use Rattle.events.specs.Entries.{logOf}
 use Rattle.events.proofs.Laws.{either}
 use Rattle.calls.specs.Calls.{Call}

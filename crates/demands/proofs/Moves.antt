@@ -10,7 +10,7 @@ use Rattle.choice.specs.Pick.{pick, _and_}
 use Rattle.phases.specs.Phases.{hasSuccessor, successor}
 use Rattle.record.specs.Fields.{withPlace}
 use Rattle.record.specs.declared.Record.{Record}
-use Rattle.reporting.specs.Done.{onward, advanced, least}
+use Rattle.step_reports.specs.Done.{onward, advanced, least}
 use Rattle.demands.proofs.Leaf.{Apart, Updates}
 use Rattle.demands.proofs.Facts.{Stage, tests, byCase}
 use Rattle.demands.proofs.Facts.Stage.{flat, flatBack, before, updating, after, undoing, backing}

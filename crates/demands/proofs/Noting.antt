@@ -11,8 +11,8 @@ use Rattle.record.specs.Answers.{said}
 use Rattle.record.specs.Fields.{spent}
 use Rattle.record.specs.declared.Record.{Record}
 use Rattle.record.specs.declared.Outcome.the-variants as O
-use Rattle.reporting.specs.Done.{advanced}
-use Rattle.reporting.specs.Reports.{storing}
+use Rattle.step_reports.specs.Done.{advanced}
+use Rattle.step_reports.specs.Reports.{storing}
 use Rattle.demands.specs.Watching.{Item, Watch, settles, lists, reported}
 use Rattle.demands.specs.Watching.Item.{settle}
 use Rattle.demands.proofs.Leaf.{Apart}

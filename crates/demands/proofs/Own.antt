@@ -13,14 +13,14 @@ use Rattle.record.specs.declared.Refusal.the-variants.{Damaged, Stale, Pending}
 use Rattle.wholeness.specs.Whole.{whole}
 use Rattle.wholeness.specs.Gates.{gateOf, gated}
 use Rattle.wholeness.specs.declared.Gate.the-variants.{Open, Shut}
-use Rattle.staging.specs.Beginning.{beginOwn, editOwn}
-use Rattle.asking.specs.Asks.{askStructureOwn, askUpdateOwn, askRollbackOwn}
-use Rattle.reporting.specs.Done.{updateDone, rollbackDone}
-use Rattle.reporting.specs.Reports.{behind, reportGate, reported, reportStructureOwn}
-use Rattle.settling.specs.Ending.{commitOwn, recoverOwn, recoverRetainedOwn, refreshOwn}
-use Rattle.stamping.specs.Stamping.{saysStamping, saysChecked, stampStep, passes, checkStep}
-use Rattle.stamping.specs.declared.Stamping.the-variants as S
-use Rattle.stamping.specs.declared.Checked.the-variants as C
+use Rattle.step_begins.specs.Beginning.{beginOwn, editOwn}
+use Rattle.step_asks.specs.Asks.{askStructureOwn, askUpdateOwn, askRollbackOwn}
+use Rattle.step_reports.specs.Done.{updateDone, rollbackDone}
+use Rattle.step_reports.specs.Reports.{behind, reportGate, reported, reportStructureOwn}
+use Rattle.step_ends.specs.Ending.{commitOwn, recoverOwn, recoverRetainedOwn, refreshOwn}
+use Rattle.step_stamps.specs.Stamping.{saysStamping, saysChecked, stampStep, passes, checkStep}
+use Rattle.step_stamps.specs.declared.Stamping.the-variants as S
+use Rattle.step_stamps.specs.declared.Checked.the-variants as C
 use Rattle.calls.specs.Calls.{Call, step}
 use Rattle.calls.specs.Calls.Work.{structure, update, rollback}
 use Rattle.calls.specs.Calls.Report.{structured, updated, rolledBack}

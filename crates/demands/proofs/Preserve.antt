@@ -5,9 +5,9 @@ use native.Mathlib.Omega.{arith}
 use Rattle.record.specs.Answers.{Told}
 use Rattle.record.specs.Fields.{adopting}
 use Rattle.record.specs.declared.Record.{Record}
-use Rattle.staging.specs.Beginning.{begun}
-use Rattle.asking.specs.Asks.{turned}
-use Rattle.reporting.specs.Done.{leaving}
+use Rattle.step_begins.specs.Beginning.{begun}
+use Rattle.step_asks.specs.Asks.{turned}
+use Rattle.step_reports.specs.Done.{leaving}
 use Rattle.calls.specs.Calls.{Call}
 use Rattle.demands.proofs.Leaf.{Leaf}
 use Rattle.demands.proofs.Leaf.Leaf.{kept, began, beganStructural, structureAsked, updateEnded, updateAsked, rollbackEnded, turnedEmpty, turnedAsked, waited, waitedStoring, went, updateLast, updateMore, undoLast, undoMore, edited, committed, recovered, restored, refreshed}

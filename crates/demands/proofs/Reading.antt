@@ -9,7 +9,7 @@ use Rattle.choice.specs.Pick.{_or_, _implies_}
 use Rattle.choice.proofs.Tests.{both, either, follows, join}
 use Rattle.phases.specs.Phases.{hasSuccessor}
 use Rattle.record.specs.Fields.{top}
-use Rattle.record.specs.Live.{kind, noTicket}
+use Rattle.record.specs.Live.{workOf, noTicket}
 use Rattle.record.specs.declared.Record.{Record}
 use Rattle.record.specs.declared.Live.{Live}
 use Rattle.record.specs.declared.Live.the-variants.{None, Structure, Update, Rollback}
@@ -100,7 +100,7 @@ tick-of (Rollback t) s v p n a k h =
     let z = both (x .1) in
     record { number = eqb-true _ _ (y .0); real = leb-true _ _ (y .1); behind = z .0; some = ltb-true _ _ (z .1) }
 
-noTicket-of : (l : Live) → eqb (kind l) noTicket ≡ true → l ≡ None
+noTicket-of : (l : Live) → eqb (workOf l) noTicket ≡ true → l ≡ None
 noTicket-of None e = refl
 noTicket-of (Structure t) e = absurd (omega tests)
 noTicket-of (Update t) e = absurd (omega tests)

@@ -15,7 +15,7 @@ use Rattle.record.specs.declared.Record.{Record}
 use Rattle.log.specs.Log.{full}
 use Rattle.calls.specs.Lending.{Lending, callOf, lent}
 use Rattle.calls.specs.Kinds.{kind, writtenAs}
-use Rattle.recording.specs.Through.{inner, leavesThrough}
+use Rattle.noting.specs.Through.{inner, leavesThrough}
 use Rattle.demands.specs.Rows.{among, distinct, count}
 use Rattle.demands.specs.Refusals.{returned, numbersOf}
 use Rattle.demands.specs.Through.{givenThrough, numbersThrough, logAfter}

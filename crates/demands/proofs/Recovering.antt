@@ -11,7 +11,7 @@ use Rattle.areas.specs.Areas.{long}
 use Rattle.record.specs.Answers.{Told, refuse}
 use Rattle.record.specs.declared.Record.{Record}
 use Rattle.record.specs.declared.Refusal.the-variants.{Idle, NotReady, TooLong}
-use Rattle.settling.specs.Ending.{unrestored, recoverOwn, recoverRetainedOwn}
+use Rattle.step_ends.specs.Ending.{unrestored, recoverOwn, recoverRetainedOwn}
 use Rattle.calls.specs.Calls.{step}
 use Rattle.calls.specs.Calls.Call.{recover, recoverRetained}
 use Rattle.demands.specs.Watching.{Item, Watch}

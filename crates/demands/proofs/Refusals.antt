@@ -20,13 +20,13 @@ use Rattle.wholeness.specs.Gates.{gateOf, gated}
 use Rattle.wholeness.specs.declared.Gate.{Gate}
 use Rattle.wholeness.specs.declared.Gate.the-variants.{Open, Shut}
 use Rattle.wholeness.proofs.Facts.{parts, live-structure}
-use Rattle.staging.specs.Opening.{openStep}
-use Rattle.staging.specs.Beginning.{beginOwn, beginStep, editOwn}
-use Rattle.asking.specs.Asks.{askStructureOwn, askUpdateOwn, askRollbackOwn}
-use Rattle.reporting.specs.Done.{onward, advanced, structureDone, updateDone, rollbackDone}
-use Rattle.reporting.specs.Reports.{behind, reportGate, reported, reportStructureOwn}
-use Rattle.settling.specs.Ending.{commitOwn, unrestored, recoverOwn, recoverRetainedOwn, refreshOwn}
-use Rattle.stamping.specs.Stamping.{stampStep, checkStep}
+use Rattle.step_begins.specs.Opening.{openStep}
+use Rattle.step_begins.specs.Beginning.{beginOwn, beginStep, editOwn}
+use Rattle.step_asks.specs.Asks.{askStructureOwn, askUpdateOwn, askRollbackOwn}
+use Rattle.step_reports.specs.Done.{onward, advanced, structureDone, updateDone, rollbackDone}
+use Rattle.step_reports.specs.Reports.{behind, reportGate, reported, reportStructureOwn}
+use Rattle.step_ends.specs.Ending.{commitOwn, unrestored, recoverOwn, recoverRetainedOwn, refreshOwn}
+use Rattle.step_stamps.specs.Stamping.{stampStep, checkStep}
 use Rattle.calls.specs.Calls.{AnyCall, stepOf}
 use Rattle.calls.specs.Calls.Work.{structure, update, rollback}
 use Rattle.calls.specs.Calls.Report.{structured, updated, rolledBack}

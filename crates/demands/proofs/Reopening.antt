@@ -9,16 +9,16 @@ use Rattle.record.specs.declared.Refusal.{Refusal}
 use Rattle.record.specs.declared.Refusal.the-variants.{Damaged, Idle, NotReady, TooLong}
 use Rattle.record.proofs.Saying.{refused-number}
 use Rattle.wholeness.specs.Whole.{whole}
-use Rattle.staging.specs.Opening.{opening}
-use Rattle.settling.specs.Ending.{settled, commitOwn, recoverOwn, recoverRetainedOwn}
+use Rattle.step_begins.specs.Opening.{opening}
+use Rattle.step_ends.specs.Ending.{idleAt, commitOwn, recoverOwn, recoverRetainedOwn}
 use Rattle.calls.specs.Calls.{Call, step}
 use Rattle.calls.specs.Calls.Call.{commit, recover, recoverRetained}
 use Rattle.demands.proofs.Own.{own, whole-step, damaged-step}
 use Rattle.demands.proofs.Unseen.{quiet}
 
 -- the record of a transaction that has ended is that of an opening, at its revision, its serial and its accepted length
-pub after-commit-opens : (v n : ℕ) (r : Record) → settled v n r ≡ opening v (r .serial) n
-unfolding settled opening
+pub after-commit-opens : (v n : ℕ) (r : Record) → idleAt v n r ≡ opening v (r .serial) n
+unfolding idleAt opening
 after-commit-opens v n r = refl
 
 record Opens (to : Record) (x : Told) : Type 0 where

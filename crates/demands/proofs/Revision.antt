@@ -10,10 +10,10 @@ use Rattle.record.specs.Fields.{adopting}
 use Rattle.record.specs.declared.Record.{Record}
 use Rattle.record.specs.declared.Outcome.the-variants as O
 use Rattle.phases.specs.Phases.{successor}
-use Rattle.staging.specs.Beginning.{begun}
-use Rattle.asking.specs.Asks.{turned}
-use Rattle.reporting.specs.Done.{advanced, leaving}
-use Rattle.settling.specs.Ending.{settled}
+use Rattle.step_begins.specs.Beginning.{begun}
+use Rattle.step_asks.specs.Asks.{turned}
+use Rattle.step_reports.specs.Done.{advanced, leaving}
+use Rattle.step_ends.specs.Ending.{idleAt}
 use Rattle.calls.specs.Calls.{Call}
 use Rattle.demands.specs.Sending.{Sent, answered, afterSent, heardSent}
 use Rattle.demands.specs.Watching.{Item, Watch, reported, sees, watch}
@@ -27,7 +27,7 @@ report-commits k t n w = report-keeps (λ (x : Watch). x .commits) (λ d u x. re
 
 -- one call: what the revision gains is what the watcher counts
 gains : {r : Record} {c : Call} {x : Told} (w : Watch) → Leaf r c x → x .state .revision + w .commits ≡ r .revision + sees w c (said (x .number) (x .values)) .commits
-unfolding sees begun turned adopting leaving settled advanced pick _or_
+unfolding sees begun turned adopting leaving idleAt advanced pick _or_
 gains w (kept u) = rw (u w)
 gains w (began z i l c o m) = refl
 gains w (beganStructural z i l c o m) = refl

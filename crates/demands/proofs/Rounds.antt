@@ -12,7 +12,7 @@ use Rattle.phases.specs.Phases.{successor}
 use Rattle.record.specs.Answers.{Told}
 use Rattle.record.specs.Fields.{top, adopting}
 use Rattle.record.specs.declared.Record.{Record}
-use Rattle.reporting.specs.Done.{advanced, leaving}
+use Rattle.step_reports.specs.Done.{advanced, leaving}
 use Rattle.calls.specs.Calls.{Call, step}
 use Rattle.calls.specs.Kinds.{kindOf, stepKind}
 use Rattle.demands.specs.Chains.{after, heard}

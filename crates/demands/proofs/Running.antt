@@ -9,10 +9,10 @@ use Rattle.record.specs.Answers.{Told, said}
 use Rattle.record.specs.Fields.{adopting}
 use Rattle.record.specs.declared.Record.{Record}
 use Rattle.record.specs.declared.Outcome.the-variants as O
-use Rattle.staging.specs.Beginning.{begun}
-use Rattle.asking.specs.Asks.{turned}
-use Rattle.reporting.specs.Done.{advanced, leaving}
-use Rattle.settling.specs.Ending.{settled}
+use Rattle.step_begins.specs.Beginning.{begun}
+use Rattle.step_asks.specs.Asks.{turned}
+use Rattle.step_reports.specs.Done.{advanced, leaving}
+use Rattle.step_ends.specs.Ending.{idleAt}
 use Rattle.calls.specs.Calls.{Call}
 use Rattle.demands.specs.Sending.{Sent, answered, afterSent, heardSent}
 use Rattle.demands.specs.Watching.{Item, Watch, reported, sees, watch}
@@ -25,7 +25,7 @@ report-runs : (k : Item → Bool) (t n : ℕ) (w : Watch) → reported k t O.Don
 report-runs k t n w = report-keeps (λ (x : Watch). x .running) (λ d u x. refl) k t O.Done (said n []) w
 
 runs : {r : Record} {c : Call} {x : Told} (w : Watch) → Leaf r c x → w .running ≡ r .staged → sees w c (said (x .number) (x .values)) .running ≡ x .state .staged
-unfolding sees begun turned adopting leaving settled advanced pick _or_
+unfolding sees begun turned adopting leaving idleAt advanced pick _or_
 runs w (kept u) h = rw (u w) h
 runs w (began z i l c o m) h = refl
 runs w (beganStructural z i l c o m) h = refl

@@ -16,9 +16,9 @@ use Rattle.record.proofs.Saying.{refused-number}
 use Rattle.wholeness.specs.Gates.{gateOf, gated}
 use Rattle.wholeness.specs.declared.Gate.{Gate}
 use Rattle.wholeness.specs.declared.Gate.the-variants.{Shut}
-use Rattle.reporting.specs.Reports.{behind, reportGate}
+use Rattle.step_reports.specs.Reports.{behind, reportGate}
 use Rattle.log.specs.Log.{full}
-use Rattle.recording.specs.Recorded.{recorded}
+use Rattle.noting.specs.Recorded.{recorded}
 use Rattle.calls.specs.Calls.{Call, stepWith, step}
 use Rattle.calls.specs.Calls.Work.{structure, update, rollback}
 use Rattle.calls.specs.Calls.Report.{structured, updated, rolledBack}

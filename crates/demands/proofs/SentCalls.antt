@@ -11,8 +11,8 @@ use Rattle.log.specs.Log.{full}
 use Rattle.calls.specs.Calls.{AnyCall, stepOf}
 use Rattle.calls.specs.Calls.AnyCall.{opens, calls}
 use Rattle.calls.specs.Lending.{Lending, callOf, fits, lent, moved, leavesOf}
-use Rattle.recording.specs.Recorded.{withLog}
-use Rattle.recording.specs.Through.{logs, leavesThrough}
+use Rattle.noting.specs.Recorded.{withLog}
+use Rattle.noting.specs.Through.{logs, leavesThrough}
 use Rattle.demands.specs.Sending.{answered, answeredAny}
 use Rattle.demands.proofs.Sending.{recorded-answer}
 

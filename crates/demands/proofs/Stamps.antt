@@ -14,7 +14,7 @@ use Rattle.record.specs.Answers.{Told, Said, said}
 use Rattle.record.specs.Fields.{top}
 use Rattle.record.specs.declared.Record.{Record}
 use Rattle.wholeness.specs.Whole.{whole}
-use Rattle.stamping.specs.Stamping.{passes}
+use Rattle.step_stamps.specs.Stamping.{passes}
 use Rattle.calls.specs.Calls.{step}
 use Rattle.calls.specs.Calls.Call.{stamp, check}
 use Rattle.demands.specs.Chains.{hears}

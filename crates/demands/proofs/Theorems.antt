@@ -14,7 +14,7 @@ use Rattle.record.specs.Answers.{Told}
 use Rattle.record.specs.Fields.{top}
 use Rattle.record.specs.declared.Record.{Record}
 use Rattle.wholeness.specs.Whole.{whole}
-use Rattle.staging.specs.Opening.{opening, openStep}
+use Rattle.step_begins.specs.Opening.{opening, openStep}
 use Rattle.calls.specs.Calls.{Call}
 use Rattle.demands.specs.Sending.{Sent, afterSent, heardSent}
 use Rattle.demands.specs.Watching.{Watch, watch, unwatched}

@@ -12,8 +12,8 @@ use Rattle.calls.specs.Calls.{Call, AnyCall, stepWith, stepOf, step}
 use Rattle.calls.specs.Calls.AnyCall.{calls}
 use Rattle.calls.specs.Lending.{Lending, callOf, fits, lent, moved}
 use Rattle.calls.specs.Kinds.{noKind, kindOf}
-use Rattle.recording.specs.Recorded.{withLog, recorded}
-use Rattle.recording.specs.Through.{logs, leavesThrough}
+use Rattle.noting.specs.Recorded.{withLog, recorded}
+use Rattle.noting.specs.Through.{logs, leavesThrough}
 use Rattle.events.proofs.Noting.{Agrees, log-decides}
 use Rattle.demands.specs.Logged.{written, loggedStep}
 

@@ -17,7 +17,7 @@ use Rattle.wholeness.specs.Whole.{complete}
 use Rattle.wholeness.specs.Gates.{gated}
 use Rattle.wholeness.specs.declared.Gate.{Gate}
 use Rattle.wholeness.specs.declared.Gate.the-variants.{Open, Shut}
-use Rattle.settling.specs.Ending.{commitOwn}
+use Rattle.step_ends.specs.Ending.{commitOwn}
 use Rattle.calls.specs.Calls.{Call, step}
 use Rattle.calls.specs.Calls.Call.{commit}
 use Rattle.calls.specs.Kinds.{kindOf}

@@ -11,10 +11,10 @@ use Rattle.choice.proofs.Tests.{test, eqb-ne}
 use Rattle.record.specs.Answers.{Told, said}
 use Rattle.record.specs.Fields.{adopting}
 use Rattle.record.specs.declared.Record.{Record}
-use Rattle.staging.specs.Beginning.{begun}
-use Rattle.asking.specs.Asks.{turned}
-use Rattle.reporting.specs.Done.{leaving}
-use Rattle.settling.specs.Ending.{settled}
+use Rattle.step_begins.specs.Beginning.{begun}
+use Rattle.step_asks.specs.Asks.{turned}
+use Rattle.step_reports.specs.Done.{leaving}
+use Rattle.step_ends.specs.Ending.{idleAt}
 use Rattle.calls.specs.Calls.{Call}
 use Rattle.demands.specs.Watching.{Watch, applies, undoes, sees}
 use Rattle.demands.specs.Watching.Item.{apply, undo}
@@ -41,7 +41,7 @@ turns : {s : Bool} (p to : ℕ) → 1 ≤ to → Kind s p → Kind s (pick (leb 
 turns p to m k = let c = M.turn p to in same-kind k (λ z. c .flat z) (λ z. byCase p 8 (λ (y : p < 8). omega (arith, c .goes z (omega arith))) (λ (y : 8 ≤ p). omega (arith, c .stays y)))
 
 pub tie : {r : Record} {c : Call} {x : Told} (w : Watch) → Whole r → Tied w r → Leaf r c x → Tied (sees w c (said (x .number) (x .values))) (x .state)
-unfolding sees begun turned adopting leaving settled pick _or_
+unfolding sees begun turned adopting leaving idleAt pick _or_
 tie w h d (kept u) = rw (u w) d
 tie w h d (began z i l c o m) = record { running = refl; turning = refl; kind = updateOnly refl z; last = tt; course = ahead refl refl refl refl refl }
 tie w h d (beganStructural z i l c o m) = record { running = refl; turning = refl; kind = structural refl (omega arith); last = tt; course = ahead refl refl refl refl refl }

@@ -7,10 +7,10 @@ use Rattle.record.specs.Leaves.{Leaves, leaves}
 use Rattle.record.specs.declared.Record.{Record}
 use Rattle.record.specs.declared.Stepped.{Stepped}
 use Rattle.record.proofs.Saying.{tells-one}
-use Rattle.stamping.specs.Stamping.{saysStamping, saysChecked}
-use Rattle.stamping.specs.declared.Stamping.{Stamping}
-use Rattle.stamping.specs.declared.Checked.{Checked}
-use Rattle.stamping.proofs.Saying.{stamping-one, checked-one}
+use Rattle.step_stamps.specs.Stamping.{saysStamping, saysChecked}
+use Rattle.step_stamps.specs.declared.Stamping.{Stamping}
+use Rattle.step_stamps.specs.declared.Checked.{Checked}
+use Rattle.step_stamps.proofs.Saying.{stamping-one, checked-one}
 use Rattle.status.specs.Status.{Marks, leavesMarks, saysMarked}
 use Rattle.status.specs.declared.Marked.{Marked}
 use Rattle.status.proofs.Marking.{marked-one}

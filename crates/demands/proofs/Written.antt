@@ -16,7 +16,7 @@ use Rattle.calls.specs.Calls.Report.{structured, updated, rolledBack}
 use Rattle.calls.specs.Calls.Call.{begin, ask, report, edit, commit, recover, recoverRetained, refresh, stamp, check}
 use Rattle.calls.specs.Calls.AnyCall.{opens, calls}
 use Rattle.calls.specs.Kinds.{kindOf, kindOfAny, stepWritten, callWritten, writtenAs}
-use Rattle.recording.specs.Recorded.{withLog}
+use Rattle.noting.specs.Recorded.{withLog}
 use Rattle.demands.specs.Rows.{Row, _when_, given, among}
 use Rattle.demands.specs.Refusals.{gateRows, rows, numbersOf}
 use Rattle.demands.specs.Through.{asks, entered}

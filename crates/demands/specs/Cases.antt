@@ -11,8 +11,8 @@ use Rattle.record.specs.declared.Outcome.the-variants as O
 use Rattle.record.specs.declared.Answer.the-variants.{Done, Refused, Ticket, Waiting, More, Finished}
 use Rattle.record.specs.declared.Was.the-variants.{Nothing, Three}
 use Rattle.record.specs.declared.Refusal.the-variants.{Capacity, NotReady, Recovering, Damaged, Stale}
-use Rattle.staging.specs.Opening.{opening, openStep}
-use Rattle.staging.specs.Beginning.{begun}
+use Rattle.step_begins.specs.Opening.{opening, openStep}
+use Rattle.step_begins.specs.Beginning.{begun}
 use Rattle.calls.specs.Calls.{Call, step}
 use Rattle.calls.specs.Calls.Work.{structure, update, rollback}
 use Rattle.calls.specs.Calls.Report.{structured, updated, rolledBack}

@@ -11,8 +11,8 @@ use Rattle.log.specs.Log.{full}
 use Rattle.calls.specs.Calls.{Work, AnyCall}
 use Rattle.calls.specs.Calls.AnyCall.{opens, calls}
 use Rattle.calls.specs.Lending.{Stored, Lending, callOf, fits, leavesOf}
-use Rattle.recording.specs.Recorded.{withLog}
-use Rattle.recording.specs.Through.{leavesThrough}
+use Rattle.noting.specs.Recorded.{withLog}
+use Rattle.noting.specs.Through.{leavesThrough}
 use Rattle.demands.specs.Chains.{Heard, hears}
 use Rattle.demands.specs.Sending.{Sent}
 

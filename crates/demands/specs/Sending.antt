@@ -6,7 +6,7 @@ use Rattle.choice.specs.Pick.{pick, _and_}
 use Rattle.record.specs.Answers.{Told, refuse}
 use Rattle.record.specs.declared.Record.{Record}
 use Rattle.record.specs.declared.Refusal.the-variants.{LogFull}
-use Rattle.staging.specs.Opening.{openStep}
+use Rattle.step_begins.specs.Opening.{openStep}
 use Rattle.calls.specs.Calls.{Call, stepWith, AnyCall}
 use Rattle.calls.specs.Calls.AnyCall.{opens, calls}
 use Rattle.demands.specs.Chains.{Heard, hears}

@@ -8,8 +8,8 @@ use Rattle.record.specs.declared.Record.{Record}
 use Rattle.log.specs.Log.{full, event}
 use Rattle.calls.specs.Lending.{Lending, callOf, fits}
 use Rattle.calls.specs.Kinds.{kind, writtenAs}
-use Rattle.recording.specs.Recorded.{withLog}
-use Rattle.recording.specs.Through.{inner}
+use Rattle.noting.specs.Recorded.{withLog}
+use Rattle.noting.specs.Through.{inner}
 use Rattle.demands.specs.Rows.{given}
 use Rattle.demands.specs.Refusals.{rows, numbersOf}
 

@@ -11,7 +11,7 @@ use super::held::size;
 use phases::Phase;
 use record::Live;
 use record::Record;
-use stamping::SaveStamp;
+use step_stamps::SaveStamp;
 
 fn lending(mut lent: Lent, area: u64, count: usize) -> Lent {
     match area {

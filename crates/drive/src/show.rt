@@ -59,7 +59,7 @@ pub(crate) fn record_numbers(record: Record) -> [u64; NUMBERS] {
         wide_count(record.applied),
         wide_count(record.attempted),
         record.restoring as u64,
-        wide(live.kind()),
+        wide(live.work()),
         live.number(),
     ]
 }

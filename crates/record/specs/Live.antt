@@ -18,11 +18,11 @@ update = 2
 abbrev pub rollback : ℕ
 rollback = 3
 
-abbrev pub kind : Live → ℕ
-kind None = noTicket
-kind (Structure n) = structure
-kind (Update n) = update
-kind (Rollback n) = rollback
+abbrev pub workOf : Live → ℕ
+workOf None = noTicket
+workOf (Structure n) = structure
+workOf (Update n) = update
+workOf (Rollback n) = rollback
 
 abbrev pub number : Live → ℕ
 number None = 0
@@ -33,4 +33,4 @@ number (Rollback n) = n
 -- of structure, update and rollback: the ticket is the live one of that kind. Of noTicket, which no report asks for: no ticket is live
 -- and the number is 0
 unfoldable pub isLive : ℕ → ℕ → Live → Bool
-isLive of ticket l = eqb (kind l) of and eqb (number l) ticket
+isLive of ticket l = eqb (workOf l) of and eqb (number l) ticket

@@ -42,7 +42,7 @@ pub struct Opening {
 }
 
 // What was found of all that a call is lent together: that every size is right, and that what is read in it is sound.
-pub struct Lent {
+pub struct Findings {
     pub sized: bool,
     pub sound: bool,
 }

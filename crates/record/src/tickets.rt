@@ -1,7 +1,7 @@
-// The live ticket's kind and number, and whether they are the ones that are given.
+// The work that the live ticket is for, and its number, and whether they are the ones that are given.
 use super::Live;
 ghost use mathlib.Core.Path.{_≡_};
-ghost use Rattle.record.specs.Live.{kind, number, isLive};
+ghost use Rattle.record.specs.Live.{workOf, number, isLive};
 
 impl Live {
     pub const NONE: u8 = 0;
@@ -12,9 +12,9 @@ impl Live {
 
     pub const ROLLBACK: u8 = 3;
 
-    // The kind as a number, for tests: an enum is compared by a match.
-    pub fn kind(self) -> u8
-        ensures { λ n. ⌜ n ≡ kind self ⌝ }
+    // The work that it is for, as a number, for tests: an enum is compared by a match.
+    pub fn work(self) -> u8
+        ensures { λ n. ⌜ n ≡ workOf self ⌝ }
     {
         match self {
             Live::None => Live::NONE,
@@ -40,6 +40,6 @@ impl Live {
     pub fn is(self, of: u8, ticket: u64) -> bool
         ensures { λ b. ⌜ b ≡ isLive of ticket self ⌝ }
     {
-        (self.kind() == of) & (self.number() == ticket)
+        (self.work() == of) & (self.number() == ticket)
     }
 }

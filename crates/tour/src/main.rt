@@ -6,8 +6,8 @@ use record::Opening;
 use record::Outcome;
 use record::Record;
 use record::Stepped;
-use stamping::Checked;
-use stamping::Stamping;
+use step_stamps::Checked;
+use step_stamps::Stamping;
 
 fn tell(what: &[u8], number: u64) {
     io::write_all(STDOUT_FILENO, what);

@@ -10,7 +10,7 @@ use Rattle.batch.specs.Batch.{limit}
 use Rattle.record.specs.declared.Record.{Record}
 use Rattle.record.specs.declared.Live.{Live}
 use Rattle.record.specs.Fields.{top}
-use Rattle.record.specs.Live.{kind, number, noTicket, structure, update, rollback}
+use Rattle.record.specs.Live.{workOf, number, noTicket, structure, update, rollback}
 
 -- "lengths are at most 4,096"
 unfoldable pub lengthsFit : ℕ → ℕ → ℕ → Bool
@@ -23,7 +23,7 @@ countsFit n a k = leb n limit and leb a k and leb k (a + 1) and leb k n
 -- "staged: revision below 18446744073709551615. Not staged: phase 0, entries 0, no live ticket"
 unfoldable pub stagedFits : Bool → ℕ → ℕ → ℕ → Live → Bool
 stagedFits staged revision p n l =
-    (staged implies ltb revision top) and (staged or (eqb p none and eqb n 0 and eqb (kind l) noTicket))
+    (staged implies ltb revision top) and (staged or (eqb p none and eqb n 0 and eqb (workOf l) noTicket))
 
 -- "forward in phases 0 to 7: 0, 0, 1, 2, 3, 4, 4, 5; in 8: 4 or 5; later 0 to 5"
 unfoldable pub forwardFits : ℕ → ℕ → Bool
@@ -64,12 +64,12 @@ restoringFits restoring p n a k =
 -- restoring, attempted = applied + 1; rollback: restoring, entries > 0"
 unfoldable pub liveFits : Live → ℕ → Bool → ℕ → ℕ → ℕ → ℕ → Bool
 liveFits l serial restoring p n a k =
-    eqb (kind l) noTicket
+    eqb (workOf l) noTicket
     or (eqb (number l) serial
     and leb 1 serial
-    and (eqb (kind l) structure implies hasSuccessor p)
-    and (eqb (kind l) update implies (eqb p none or eqb p updates) and not restoring and eqb k (a + 1))
-    and (eqb (kind l) rollback implies restoring and ltb 0 n))
+    and (eqb (workOf l) structure implies hasSuccessor p)
+    and (eqb (workOf l) update implies (eqb p none or eqb p updates) and not restoring and eqb k (a + 1))
+    and (eqb (workOf l) rollback implies restoring and ltb 0 n))
 
 -- "It is whole when"; "phase at most 13" stands in its place
 unfoldable pub whole : Record → Bool

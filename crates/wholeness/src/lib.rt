@@ -1,6 +1,6 @@
 // When a record is whole, and when it is complete; and the refusals that every call begins with.
 use phases::Phase;
-use record::Lent;
+use record::Findings;
 use record::Live;
 use record::MAX;
 use record::Record;
@@ -36,7 +36,7 @@ fn staged_fits(r: Record) -> bool
     let live = r.live;
     (!r.staged | (r.revision < MAX))
         & (r.staged
-            | ((r.phase.number == Phase::NONE) & (r.entries == 0) & (live.kind() == Live::NONE)))
+            | ((r.phase.number == Phase::NONE) & (r.entries == 0) & (live.work() == Live::NONE)))
 }
 
 fn forward_fits(r: Record) -> bool
@@ -86,16 +86,16 @@ fn live_fits(r: Record) -> bool
 {
     let p = r.phase.number;
     let live = r.live;
-    let kind = live.kind();
-    (kind == Live::NONE)
+    let work = live.work();
+    (work == Live::NONE)
         | ((live.number() == r.serial)
             & (1 <= r.serial)
-            & (!(kind == Live::STRUCTURE) | r.phase.has_successor())
-            & (!(kind == Live::UPDATE)
+            & (!(work == Live::STRUCTURE) | r.phase.has_successor())
+            & (!(work == Live::UPDATE)
                 | (((p == Phase::NONE) | (p == Phase::UPDATES))
                     & !r.restoring
                     & ((r.attempted as u64) == (r.applied as u64) + 1)))
-            & (!(kind == Live::ROLLBACK) | (r.restoring & (0 < r.entries))))
+            & (!(work == Live::ROLLBACK) | (r.restoring & (0 < r.entries))))
 }
 
 // Whether the record is whole, as document 01 lists it; any other is Damaged.
@@ -120,13 +120,13 @@ pub fn complete(r: Record) -> bool
 }
 
 // The refusals that every call begins with, in their order.
-pub fn admit(r: Record, lent: Lent) -> Gate
-    ensures { λ g. ⌜ g ≡ gateOf (lent .sized) (lent .sound) r ⌝ }
+pub fn admit(r: Record, found: Findings) -> Gate
+    ensures { λ g. ⌜ g ≡ gateOf (found .sized) (found .sound) r ⌝ }
 {
-    if !lent.sized {
+    if !found.sized {
         return Gate::Shut(Refusal::BadArea);
     }
-    if lent.sound & whole(r) {
+    if found.sound & whole(r) {
         Gate::Open
     } else {
         Gate::Shut(Refusal::Damaged)

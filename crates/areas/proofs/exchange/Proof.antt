@@ -24,34 +24,10 @@ returns c = no _ (ne-eqb _ _ (c .if1 .taken)) refl
 loop-holds : tie.Need-loop-holds Inv-loop μ-loop
 loop-holds c = (copy-none _ _, copy-none _ _)
 
-slice-read-x : tie.Need-slice-read-x Inv-loop μ-loop
-slice-read-x c = search needs
-
-slice-read-a : tie.Need-slice-read-a Inv-loop μ-loop
-slice-read-a c = search needs
-
-slice-write-a : tie.Need-slice-write-a Inv-loop μ-loop
-slice-write-a c = search needs
-
-slice-write-b : tie.Need-slice-write-b Inv-loop μ-loop
-slice-write-b c = search needs
-
-add-i : tie.Need-add-i Inv-loop μ-loop
-add-i c = search needs
-
-loop-less : tie.Need-loop-less Inv-loop μ-loop
-loop-less c = search needs
-
 loop-again : tie.Need-loop-again Inv-loop μ-loop
 loop-again c =
     let l = c .before .before .before .loop in
     (swap-more (l .inv .0) (l .inv .1) (omega arith) (omega arith), swap-more (l .inv .1) (l .inv .0) (omega arith) (omega arith))
-
-same-length : tie.Need-same-length Inv-loop μ-loop
-same-length c = search needs
-
-same-length-2 : tie.Need-same-length-2 Inv-loop μ-loop
-same-length-2 c = search needs
 
 returns-2 : tie.Need-returns-2 Inv-loop μ-loop
 unfolding exchanged
@@ -68,13 +44,13 @@ exchange-spec =
     μ-loop
     returns
     loop-holds
-    slice-read-x
-    slice-read-a
-    slice-write-a
-    slice-write-b
-    add-i
-    loop-less
+    (search needs)
+    (search needs)
+    (search needs)
+    (search needs)
+    (search needs)
+    (search needs)
     loop-again
-    same-length
-    same-length-2
+    (search needs)
+    (search needs)
     returns-2)

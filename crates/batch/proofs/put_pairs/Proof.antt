@@ -4,15 +4,9 @@ use borrow.Author.Needs.{needs}
 use Rattle.batch.proofs.put_pairs.Statement.{statement}
 use Rattle.batch.proofs.put_pairs.Tie as tie
 
-copy-words-requires : tie.Need-copy-words-requires
-copy-words-requires c κs = search needs
-
-same-length : tie.Need-same-length
-same-length c = search needs
-
 returns : tie.Need-returns
 unfolding pairsIn
 returns c = c .before .before .copy-words .ensures
 
 pub put-pairs-spec : {M : Type 1} → statement M
-put-pairs-spec = tie.close (tie.spec copy-words-requires same-length returns)
+put-pairs-spec = tie.close (tie.spec (search needs) (search needs) returns)

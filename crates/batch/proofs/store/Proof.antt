@@ -6,21 +6,6 @@ use borrow.Author.Needs.{needs}
 use Rattle.batch.proofs.store.Statement.{statement}
 use Rattle.batch.proofs.store.Tie as tie
 
-mul-at : tie.Need-mul-at
-mul-at c = search needs
-
-add-at : tie.Need-add-at
-add-at c = search needs
-
-mul-table : tie.Need-mul-table
-mul-table c = search needs
-
-slice-write-table : tie.Need-slice-write-table
-slice-write-table c = search needs
-
-same-length : tie.Need-same-length
-same-length c = search needs
-
 returns : tie.Need-returns
 unfolding stored
 returns c = refl
@@ -31,4 +16,4 @@ returns-2 c = sym (set-out _ _ _ (c .if1 .left))
 
 pub store-spec : {M : Type 1} → statement M
 store-spec =
-    tie.close (tie.spec mul-at add-at mul-table slice-write-table same-length returns returns-2)
+    tie.close (tie.spec (search needs) (search needs) (search needs) (search needs) (search needs) returns returns-2)

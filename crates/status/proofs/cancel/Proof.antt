@@ -4,29 +4,8 @@ use borrow.Author.Needs.{needs}
 use Rattle.status.proofs.cancel.Statement.{statement}
 use Rattle.status.proofs.cancel.Tie as tie
 
-look-up-requires : tie.Need-look-up-requires
-look-up-requires c κs = search needs
-
-enum-known-found : tie.Need-enum-known-found
-enum-known-found c = search needs
-
-enum-known-found-2 : tie.Need-enum-known-found-2
-enum-known-found-2 c = search needs
-
-with-cancelled-requires : tie.Need-with-cancelled-requires
-with-cancelled-requires c κs = search needs
-
-set-mark-requires : tie.Need-set-mark-requires
-set-mark-requires c κs = search needs
-
-same-length : tie.Need-same-length
-same-length c = search needs
-
 returns : tie.Need-returns
 returns c = found-no _ _ _ (c .before .before .before .look-up .ensures) (c .before .found .given .1)
-
-same-length-2 : tie.Need-same-length-2
-same-length-2 c = search needs
 
 returns-2 : tie.Need-returns-2
 returns-2 c =
@@ -35,13 +14,4 @@ returns-2 c =
 pub cancel-spec : {M : Type 1} → statement M
 cancel-spec =
     tie.close
-    (tie.spec
-    look-up-requires
-    enum-known-found
-    enum-known-found-2
-    with-cancelled-requires
-    set-mark-requires
-    same-length
-    returns
-    same-length-2
-    returns-2)
+    (tie.spec (search needs) (search needs) (search needs) (search needs) (search needs) (search needs) returns (search needs) returns-2)

@@ -32,12 +32,6 @@ unfolding entryOf
 returns-5 c =
     no _ (ap not (eq-eqb _ _ (c .before .before .before .before .if1 .left))) (no _ (search branches) (no _ (search branches) (no _ (search branches) (yes _ (search branches) refl))))
 
-shared-slice-read-group : tie.Need-shared-slice-read-group
-shared-slice-read-group c = search needs
-
-shared-slice-read-mark : tie.Need-shared-slice-read-mark
-shared-slice-read-mark c = search needs
-
 returns-6 : tie.Need-returns-6
 unfolding entryOf bytesSound _and_ _or_
 returns-6 c =
@@ -53,13 +47,4 @@ returns-7 c =
 pub look-up-spec : {M : Type 1} → statement M
 look-up-spec =
     tie.close
-    (tie.spec
-    returns
-    returns-2
-    returns-3
-    returns-4
-    returns-5
-    shared-slice-read-group
-    shared-slice-read-mark
-    returns-6
-    returns-7)
+    (tie.spec returns returns-2 returns-3 returns-4 returns-5 (search needs) (search needs) returns-6 returns-7)

@@ -13,12 +13,6 @@ returns : tie.Need-returns
 unfolding put
 returns c = yes _ (c .if1 .taken) refl
 
-slice-write-status : tie.Need-slice-write-status
-slice-write-status c = search needs
-
-same-length : tie.Need-same-length
-same-length c = search needs
-
 returns-2 : tie.Need-returns-2
 unfolding put
 returns-2 c = no _ (c .before .if1 .left) refl
@@ -28,4 +22,4 @@ unfolding put
 returns-3 c = no _ (c .before .if1 .left) (ap (leavesMarks (said 0 [])) (sym (set-out _ _ _ (c .if2 .left))))
 
 pub set-mark-spec : {M : Type 1} → statement M
-set-mark-spec = tie.close (tie.spec returns slice-write-status same-length returns-2 returns-3)
+set-mark-spec = tie.close (tie.spec returns (search needs) (search needs) returns-2 returns-3)

@@ -7,9 +7,6 @@ use borrow.Author.Needs.{needs}
 use Rattle.status.proofs.with_cancelled.Statement.{statement}
 use Rattle.status.proofs.with_cancelled.Tie as tie
 
-add-result : tie.Need-add-result
-add-result c = search needs
-
 returns : tie.Need-returns
 unfolding withCancelled
 returns c = yes _ (search branches) refl
@@ -19,4 +16,4 @@ unfolding withCancelled
 returns-2 c = no _ (search branches) refl
 
 pub with-cancelled-spec : {M : Type 1} → statement M
-with-cancelled-spec = tie.close (tie.spec add-result returns returns-2)
+with-cancelled-spec = tie.close (tie.spec (search needs) returns returns-2)

@@ -7,9 +7,6 @@ use borrow.Author.Needs.{needs}
 use Rattle.status.proofs.with_initialized.Statement.{statement}
 use Rattle.status.proofs.with_initialized.Tie as tie
 
-add-result : tie.Need-add-result
-add-result c = search needs
-
 returns : tie.Need-returns
 unfolding withInitialized
 returns c = yes _ (search branches) refl
@@ -19,4 +16,4 @@ unfolding withInitialized
 returns-2 c = no _ (search branches) refl
 
 pub with-initialized-spec : {M : Type 1} → statement M
-with-initialized-spec = tie.close (tie.spec add-result returns returns-2)
+with-initialized-spec = tie.close (tie.spec (search needs) returns returns-2)

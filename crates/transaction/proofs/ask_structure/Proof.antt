@@ -3,11 +3,8 @@ use borrow.Author.Needs.{needs}
 use Rattle.transaction.proofs.ask_structure.Statement.{statement}
 use Rattle.transaction.proofs.ask_structure.Tie as tie
 
-ask-structure-requires : tie.Need-ask-structure-requires
-ask-structure-requires c κs = search needs
-
 returns : tie.Need-returns
 returns c = c .ask-structure .ensures
 
 pub ask-structure-spec : {M : Type 1} → statement M
-ask-structure-spec = tie.close (tie.spec ask-structure-requires returns)
+ask-structure-spec = tie.close (tie.spec (search needs) returns)

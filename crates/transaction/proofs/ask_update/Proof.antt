@@ -3,11 +3,8 @@ use borrow.Author.Needs.{needs}
 use Rattle.transaction.proofs.ask_update.Statement.{statement}
 use Rattle.transaction.proofs.ask_update.Tie as tie
 
-ask-update-requires : tie.Need-ask-update-requires
-ask-update-requires c κs = search needs
-
 returns : tie.Need-returns
 returns c = c .ask-update .ensures
 
 pub ask-update-spec : {M : Type 1} → statement M
-ask-update-spec = tie.close (tie.spec ask-update-requires returns)
+ask-update-spec = tie.close (tie.spec (search needs) returns)

@@ -5,11 +5,8 @@ use borrow.Author.Needs.{needs}
 use Rattle.transaction.proofs.stamp.Statement.{statement}
 use Rattle.transaction.proofs.stamp.Tie as tie
 
-stamp-requires : tie.Need-stamp-requires
-stamp-requires c κs = search needs
-
 returns : tie.Need-returns
 returns c = ap (λ (s : Said). told s (c .before .args .r)) (c .stamp .ensures)
 
 pub stamp-spec : {M : Type 1} → statement M
-stamp-spec = tie.close (tie.spec stamp-requires returns)
+stamp-spec = tie.close (tie.spec (search needs) returns)

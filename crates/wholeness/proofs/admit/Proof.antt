@@ -11,9 +11,6 @@ returns : tie.Need-returns
 unfolding gateOf _and_
 returns c = yes _ (c .if1 .taken) refl
 
-whole-requires : tie.Need-whole-requires
-whole-requires c κs = search needs
-
 returns-2 : tie.Need-returns-2
 unfolding gateOf _and_
 returns-2 c = no _ (c .before .before .before .if1 .left) (yes _ (rw (c .before .before .whole .ensures) at (c .if2 .taken)) refl)
@@ -23,4 +20,4 @@ unfolding gateOf _and_
 returns-3 c = no _ (c .before .before .before .if1 .left) (no _ (rw (c .before .before .whole .ensures) at (c .if2 .left)) refl)
 
 pub admit-spec : {M : Type 1} → statement M
-admit-spec = tie.close (tie.spec returns whole-requires returns-2 returns-3)
+admit-spec = tie.close (tie.spec returns (search needs) returns-2 returns-3)

@@ -5,12 +5,9 @@ use borrow.Author.Needs.{needs}
 use Rattle.wholeness.proofs.staged_fits.Statement.{statement}
 use Rattle.wholeness.proofs.staged_fits.Tie as tie
 
-kind-requires : tie.Need-kind-requires
-kind-requires c κs = search needs
-
 returns : tie.Need-returns
 unfolding stagedFits _and_ _or_ _implies_
-returns c = simp (c .before .kind .ensures)
+returns c = simp (c .before .work .ensures)
 
 pub staged-fits-spec : {M : Type 1} → statement M
-staged-fits-spec = tie.close (tie.spec kind-requires returns)
+staged-fits-spec = tie.close (tie.spec (search needs) returns)

@@ -8,9 +8,6 @@ use borrow.Author.Needs.{needs}
 use Rattle.phases.proofs.Phase.successor.Statement.{statement}
 use Rattle.phases.proofs.Phase.successor.Tie as tie
 
-has-successor-requires : tie.Need-has-successor-requires
-has-successor-requires c κs = search needs
-
 add-t4 : tie.Need-add-t4
 add-t4 c = omega (arith, successor-small _ (told (c .before .before .has-successor .ensures) (c .before .if1 .taken)))
 
@@ -23,4 +20,4 @@ unfolding successor
 returns-2 c = no _ (told (c .before .has-successor .ensures) (c .if1 .left)) refl
 
 pub successor-spec : {M : Type 1} → statement M
-successor-spec = tie.close (tie.spec has-successor-requires add-t4 returns returns-2)
+successor-spec = tie.close (tie.spec (search needs) add-t4 returns returns-2)

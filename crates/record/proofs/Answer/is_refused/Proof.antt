@@ -6,12 +6,9 @@ use borrow.Author.Needs.{needs}
 use Rattle.record.proofs.Answer.is_refused.Statement.{statement}
 use Rattle.record.proofs.Answer.is_refused.Tie as tie
 
-number-requires : tie.Need-number-requires
-number-requires c κs = search needs
-
 returns : tie.Need-returns
 unfolding refused _and_
 returns c = ap refused (c .number .ensures)
 
 pub is-refused-spec : {M : Type 1} → statement M
-is-refused-spec = tie.close (tie.spec number-requires returns)
+is-refused-spec = tie.close (tie.spec (search needs) returns)

@@ -1,0 +1,112 @@
+// Opening, beginning a transaction and editing what is staged, with what is lent.
+use record::Findings;
+use record::Opening;
+use record::Record;
+use record::Stepped;
+ghost use mathlib.Core.Path.{_≡_};
+ghost use mathlib.Core.List.{_∷_, []};
+ghost use mathlib.Core.Bool.{true, false};
+ghost use Rattle.record.specs.Answers.{tells};
+ghost use Rattle.record.specs.Leaves.{leaves};
+ghost use Rattle.calls.specs.Lending.{leavesOf, unopened};
+ghost use Rattle.calls.specs.Lending.Lending.{openAt, begin, edit};
+
+// A new record, with an accepted payload.
+pub fn open(given: Opening, accepted: &mut [u8], payload: &[u8]) -> Stepped
+    ensures { λ s. ⌜ leaves (tells s) (now (accepted .exit) ∷ [])
+        ≡ leavesOf unopened (openAt (given .revision) (given .serial) (now (accepted .entry)) (now (payload .entry))) ⌝ }
+{
+    let stepped = step_begins::open(accepted.len() == areas::SIZE, given, payload.len());
+    let answer = stepped.answer;
+    if answer.is_refused() {
+        return stepped;
+    }
+    areas::copy_bytes(accepted, payload);
+    stepped
+}
+
+// Stages a candidate payload (`new`), a recovery payload (`old`) and the pairs of a batch.
+fn begin_in(
+    structural: bool,
+    r: Record,
+    candidate: &mut [u8],
+    recovery: &mut [u8],
+    table: &mut [u64],
+    new: &[u8],
+    old: &[u8],
+    pairs: &[u64],
+) -> Stepped
+    ensures { λ s. ⌜ leaves (tells s) (now (candidate .exit) ∷ now (recovery .exit) ∷ now (table .exit) ∷ [])
+        ≡ leavesOf r (begin structural (now (candidate .entry)) (now (recovery .entry)) (now (table .entry))
+        (now (new .entry)) (now (old .entry)) (now (pairs .entry))) ⌝ }
+{
+    let found = Findings {
+        sized: (candidate.len() == areas::SIZE)
+            & (recovery.len() == areas::SIZE)
+            & (table.len() == batch::WORDS)
+            & (pairs.len() % 2 == 0),
+        sound: true,
+    };
+    let stepped = step_begins::begin(r, found, structural, new.len(), old.len(), pairs.len() / 2);
+    let answer = stepped.answer;
+    if answer.is_refused() {
+        return stepped;
+    }
+    areas::copy_bytes(candidate, new);
+    areas::copy_bytes(recovery, old);
+    batch::put_pairs(table, pairs);
+    stepped
+}
+
+// An update-only transaction.
+pub fn begin(
+    r: Record,
+    candidate: &mut [u8],
+    recovery: &mut [u8],
+    table: &mut [u64],
+    new: &[u8],
+    old: &[u8],
+    pairs: &[u64],
+) -> Stepped
+    ensures { λ s. ⌜ leaves (tells s) (now (candidate .exit) ∷ now (recovery .exit) ∷ now (table .exit) ∷ [])
+        ≡ leavesOf r (begin false (now (candidate .entry)) (now (recovery .entry)) (now (table .entry))
+        (now (new .entry)) (now (old .entry)) (now (pairs .entry))) ⌝ }
+{
+    begin_in(false, r, candidate, recovery, table, new, old, pairs)
+}
+
+// A structural transaction: the phases 1 to 7 stand about its updates.
+pub fn begin_structural(
+    r: Record,
+    candidate: &mut [u8],
+    recovery: &mut [u8],
+    table: &mut [u64],
+    new: &[u8],
+    old: &[u8],
+    pairs: &[u64],
+) -> Stepped
+    ensures { λ s. ⌜ leaves (tells s) (now (candidate .exit) ∷ now (recovery .exit) ∷ now (table .exit) ∷ [])
+        ≡ leavesOf r (begin true (now (candidate .entry)) (now (recovery .entry)) (now (table .entry))
+        (now (new .entry)) (now (old .entry)) (now (pairs .entry))) ⌝ }
+{
+    begin_in(true, r, candidate, recovery, table, new, old, pairs)
+}
+
+// Replaces both staged payloads.
+pub fn edit(r: Record, candidate: &mut [u8], recovery: &mut [u8], new: &[u8], old: &[u8]) -> Stepped
+    ensures { λ s. ⌜ leaves (tells s) (now (candidate .exit) ∷ now (recovery .exit) ∷ [])
+        ≡ leavesOf r (edit (now (candidate .entry)) (now (recovery .entry)) (now (new .entry)) (now (old .entry))) ⌝ }
+{
+    let found = Findings {
+        sized: (candidate.len() == areas::SIZE) & (recovery.len() == areas::SIZE),
+        sound: true,
+    };
+    let stepped = step_begins::edit(r, found, new.len(), old.len());
+    let answer = stepped.answer;
+    if answer.is_refused() {
+        return stepped;
+    }
+    areas::copy_bytes(candidate, new);
+    areas::copy_bytes(recovery, old);
+    stepped
+}

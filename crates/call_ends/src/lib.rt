@@ -1,0 +1,91 @@
+// Ending a transaction by a commit or a recovery, and refreshing what is accepted. Areas are exchanged whole, so that what was
+// accepted is handed back.
+use record::Findings;
+use record::Record;
+use record::Stepped;
+ghost use mathlib.Core.Path.{_≡_};
+ghost use mathlib.Core.List.{_∷_, []};
+ghost use Rattle.record.specs.Answers.{tells};
+ghost use Rattle.record.specs.Leaves.{leaves};
+ghost use Rattle.calls.specs.Lending.{leavesOf};
+ghost use Rattle.calls.specs.Lending.Lending.{commit, recover, recoverRetained, refresh};
+
+// The candidate becomes the accepted payload.
+pub fn commit(r: Record, accepted: &mut [u8], candidate: &mut [u8]) -> Stepped
+    ensures { λ s. ⌜ leaves (tells s) (now (accepted .exit) ∷ now (candidate .exit) ∷ [])
+        ≡ leavesOf r (commit (now (accepted .entry)) (now (candidate .entry))) ⌝ }
+{
+    let found = Findings {
+        sized: (accepted.len() == areas::SIZE) & (candidate.len() == areas::SIZE),
+        sound: true,
+    };
+    let stepped = step_ends::commit(r, found);
+    let answer = stepped.answer;
+    if answer.is_refused() {
+        return stepped;
+    }
+    areas::exchange(accepted, candidate);
+    stepped
+}
+
+// The snapshot in the exchange area becomes the accepted payload.
+pub fn recover(r: Record, accepted: &mut [u8], exchange: &mut [u8], length: usize) -> Stepped
+    ensures { λ s. ⌜ leaves (tells s) (now (accepted .exit) ∷ now (exchange .exit) ∷ [])
+        ≡ leavesOf r (recover (now (accepted .entry)) (now (exchange .entry)) length) ⌝ }
+{
+    let found = Findings {
+        sized: (accepted.len() == areas::SIZE) & (exchange.len() == areas::SIZE),
+        sound: true,
+    };
+    let stepped = step_ends::recover(r, found, length);
+    let answer = stepped.answer;
+    if answer.is_refused() {
+        return stepped;
+    }
+    areas::exchange(accepted, exchange);
+    stepped
+}
+
+// The retained recovery payload becomes the accepted one, and stays; what was accepted is handed back in the exchange area.
+pub fn recover_retained(
+    r: Record,
+    accepted: &mut [u8],
+    recovery: &[u8],
+    exchange: &mut [u8],
+) -> Stepped
+    ensures { λ s. ⌜ leaves (tells s) (now (accepted .exit) ∷ now (recovery .exit) ∷ now (exchange .exit) ∷ [])
+        ≡ leavesOf r (recoverRetained (now (accepted .entry)) (now (recovery .entry)) (now (exchange .entry))) ⌝ }
+{
+    let found = Findings {
+        sized: (accepted.len() == areas::SIZE)
+            & (recovery.len() == areas::SIZE)
+            & (exchange.len() == areas::SIZE),
+        sound: true,
+    };
+    let stepped = step_ends::recover_retained(r, found);
+    let answer = stepped.answer;
+    if answer.is_refused() {
+        return stepped;
+    }
+    areas::copy_bytes(exchange, accepted);
+    areas::copy_bytes(accepted, recovery);
+    stepped
+}
+
+// The snapshot in the exchange area replaces the accepted payload; no revision is made.
+pub fn refresh(r: Record, accepted: &mut [u8], exchange: &mut [u8], length: usize) -> Stepped
+    ensures { λ s. ⌜ leaves (tells s) (now (accepted .exit) ∷ now (exchange .exit) ∷ [])
+        ≡ leavesOf r (refresh (now (accepted .entry)) (now (exchange .entry)) length) ⌝ }
+{
+    let found = Findings {
+        sized: (accepted.len() == areas::SIZE) & (exchange.len() == areas::SIZE),
+        sound: true,
+    };
+    let stepped = step_ends::refresh(r, found, length);
+    let answer = stepped.answer;
+    if answer.is_refused() {
+        return stepped;
+    }
+    areas::exchange(accepted, exchange);
+    stepped
+}

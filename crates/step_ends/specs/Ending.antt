@@ -1,0 +1,70 @@
+-- Document 01, "The steps": commit, both recoveries and refresh. Assumes nothing.
+use Prim.Native.Nat.{ℕ, _+_}
+use mathlib.Core.Bool.{Bool, false, not}
+use lib.Dec.{eqb, ltb}
+use Rattle.choice.specs.Pick.{pick, _or_}
+use Rattle.phases.specs.Phases.{none, ready, recovered}
+use Rattle.areas.specs.Areas.{long}
+use Rattle.wholeness.specs.Whole.{complete}
+use Rattle.record.specs.Fields.{withPlace, withBatch, withSettings, withLengths, spent}
+use Rattle.record.specs.Answers.{Told, answer, refuse}
+use Rattle.wholeness.specs.Gates.{gateOf, gated}
+use Rattle.record.specs.declared.Record.{Record}
+use Rattle.record.specs.declared.Answer.the-variants.{Done}
+use Rattle.record.specs.declared.Was.the-variants.{One, Three}
+use Rattle.record.specs.declared.Refusal.the-variants.{Pending, Idle, NotReady, TooLong}
+
+-- "After commit and both recoveries: idle, counts 0, not restoring, candidate and recovery lengths 0."
+unfoldable pub idleAt : ℕ → ℕ → Record → Record
+idleAt revision accepted r =
+    spent (withPlace none 0 0 (withBatch 0 0 0 false (withSettings revision false (withLengths accepted 0 0 r))))
+
+-- "Commit: 2; 4 if not complete or phase not 0 or 7. .. revision plus one." "Commit answers with the old accepted and recovery
+-- lengths and entries"
+unfoldable pub commitOwn : Record → Told
+commitOwn r =
+    pick (not (r .staged)) (refuse Idle r)
+    (pick (not (complete r) or not (eqb (r .phase .number) none or eqb (r .phase .number) ready)) (refuse NotReady r)
+    (answer (Done (Three (r .accepted) (r .recovery) (r .entries))) (idleAt (r .revision + 1) (r .candidate) r)))
+
+-- "4 if entries > 0 or phase not 0 or 13"
+unfoldable pub unrestored : Record → Bool
+unrestored r = ltb 0 (r .entries) or not (eqb (r .phase .number) none or eqb (r .phase .number) recovered)
+
+-- "both recoveries with the old accepted, candidate and recovery lengths"
+abbrev pub recoveredTo : ℕ → Record → Told
+recoveredTo accepted r = answer (Done (Three (r .accepted) (r .candidate) (r .recovery))) (idleAt (r .revision) accepted r)
+
+-- "Recover (exchange area, length): 2; 4 if ..; 8."
+unfoldable pub recoverOwn : Record → ℕ → Told
+recoverOwn r length =
+    pick (not (r .staged)) (refuse Idle r)
+    (pick (unrestored r) (refuse NotReady r)
+    (pick (long length) (refuse TooLong r)
+    (recoveredTo length r)))
+
+-- "Recover from the retained payload: 2, 4 alike"
+unfoldable pub recoverRetainedOwn : Record → Told
+recoverRetainedOwn r =
+    pick (not (r .staged)) (refuse Idle r)
+    (pick (unrestored r) (refuse NotReady r)
+    (recoveredTo (r .recovery) r))
+
+-- "Refresh: 1, 8", "refresh with the old accepted one"
+unfoldable pub refreshOwn : Record → ℕ → Told
+refreshOwn r length =
+    pick (r .staged) (refuse Pending r)
+    (pick (long length) (refuse TooLong r)
+    (answer (Done (One (r .accepted))) (withLengths length (r .candidate) (r .recovery) r)))
+
+abbrev pub commitStep : Bool → Bool → Record → Told
+commitStep sized sound r = gated (gateOf sized sound r) r (commitOwn r)
+
+abbrev pub recoverStep : Bool → Bool → Record → ℕ → Told
+recoverStep sized sound r length = gated (gateOf sized sound r) r (recoverOwn r length)
+
+abbrev pub recoverRetainedStep : Bool → Bool → Record → Told
+recoverRetainedStep sized sound r = gated (gateOf sized sound r) r (recoverRetainedOwn r)
+
+abbrev pub refreshStep : Bool → Bool → Record → ℕ → Told
+refreshStep sized sound r length = gated (gateOf sized sound r) r (refreshOwn r length)

@@ -1,0 +1,22 @@
+-- `step_reports::rollback::leaving` meets its contract. Assumes nothing.
+use Prim.Native.Nat.{ℕ}
+use mathlib.Core.Path.{refl, ap}
+use Rattle.choice.proofs.Picks.{yes, no}
+use Rattle.choice.proofs.Tests.{branches}
+use Rattle.record.specs.Fields.{withPlace}
+use Rattle.step_reports.specs.Done.{leaving}
+use Rattle.step_reports.proofs.rollback.leaving.Statement.{statement}
+use Rattle.step_reports.proofs.rollback.leaving.Tie as tie
+
+returns : tie.Need-returns
+unfolding leaving
+returns c =
+    let r = c .before .before .before .args .r in ap (λ (p : ℕ). withPlace p (r .forward) (r .back) r) (yes _ (search branches) refl)
+
+returns-2 : tie.Need-returns-2
+unfolding leaving
+returns-2 c =
+    let r = c .before .before .args .r in ap (λ (p : ℕ). withPlace p (r .forward) (r .back) r) (no _ (search branches) refl)
+
+pub leaving-spec : {M : Type 1} → statement M
+leaving-spec = tie.close (tie.spec returns returns-2)

@@ -1,0 +1,31 @@
+-- `step_reports::rollback::rollback_done` meets its contract. Assumes nothing.
+use Prim.Native.Nat.{ℕ, _-_}
+use mathlib.Core.Path.{ap, _∙_}
+use Rattle.choice.proofs.Picks.{yes, no}
+use Rattle.choice.proofs.Tests.{branches}
+use Rattle.record.specs.Fields.{withBatch}
+use Rattle.record.specs.Answers.{answer}
+use Rattle.record.specs.declared.Record.{Record}
+use Rattle.record.specs.declared.Answer.the-variants.{More, Finished}
+use Rattle.step_reports.specs.Done.{leaving, rollbackDone}
+use borrow.Author.Needs.{needs}
+use Rattle.step_reports.proofs.rollback.rollback_done.Statement.{statement}
+use Rattle.step_reports.proofs.rollback.rollback_done.Tie as tie
+
+-- the action taken off, with a left applied
+abbrev off : Record → ℕ → Record
+off r a = withBatch (r .entries - 1) a (r .attempted - 1) (r .restoring) r
+
+returns : tie.Need-returns
+unfolding rollbackDone
+returns c =
+    let r = c .before .before .before .before .before .args .r in
+    yes _ (search branches) (ap (answer Finished) (c .leaving .ensures ∙ ap (λ (a : ℕ). leaving (off r a)) (c .before .before .least .ensures)))
+
+returns-2 : tie.Need-returns-2
+unfolding rollbackDone
+returns-2 c = let r = c .before .before .before .before .args .r in no _ (search branches) (ap (λ (a : ℕ). answer More (off r a)) (c .before .least .ensures))
+
+pub rollback-done-spec : {M : Type 1} → statement M
+rollback-done-spec =
+    tie.close (tie.spec (search needs) (search needs) (search needs) (search needs) returns returns-2)

@@ -1,0 +1,21 @@
+-- `step_reports::update::update_done` meets its contract. Assumes nothing.
+use mathlib.Core.Path.{refl, ap}
+use Rattle.choice.proofs.Picks.{yes, no}
+use Rattle.choice.proofs.Tests.{branches}
+use Rattle.record.specs.Answers.{answer}
+use Rattle.record.specs.declared.Answer.the-variants.{Finished}
+use Rattle.step_reports.specs.Done.{updateDone}
+use borrow.Author.Needs.{needs}
+use Rattle.step_reports.proofs.update.update_done.Statement.{statement}
+use Rattle.step_reports.proofs.update.update_done.Tie as tie
+
+returns : tie.Need-returns
+unfolding updateDone
+returns c = yes _ (search branches) (ap (answer Finished) (c .adopting .ensures))
+
+returns-2 : tie.Need-returns-2
+unfolding updateDone
+returns-2 c = no _ (search branches) refl
+
+pub update-done-spec : {M : Type 1} → statement M
+update-done-spec = tie.close (tie.spec (search needs) (search needs) returns returns-2)

@@ -1,0 +1,66 @@
+// The report of an action's undoing.
+use super::report_gate;
+use super::reported;
+use phases::Phase;
+use record::Answer;
+use record::Findings;
+use record::Live;
+use record::Outcome;
+use record::Record;
+use record::Stepped;
+use wholeness::Gate;
+ghost use mathlib.Core.Path.{_≡_};
+ghost use Prim.Native.Nat.{_<_};
+ghost use Rattle.record.specs.Answers.{tells};
+ghost use Rattle.step_reports.specs.Done.{least, leaving, rollbackDone};
+ghost use Rattle.step_reports.specs.Reports.{reportRollbackStep};
+
+fn least(a: u32, b: u32) -> u32
+    ensures { λ n. ⌜ n ≡ least a b ⌝ }
+{
+    if a < b { a } else { b }
+}
+
+// Once every action is undone, phase 8 becomes 9.
+fn leaving(mut r: Record) -> Record
+    ensures { λ s. ⌜ s ≡ leaving r ⌝ }
+{
+    if r.phase.number == Phase::UNDO {
+        r.phase.number = Phase::RECOVER_REMOVE;
+    }
+    r
+}
+
+// The last action is taken off.
+fn rollback_done(mut r: Record) -> Stepped
+    requires { ⌜ (0 < r .entries) × (0 < r .attempted) ⌝ }
+    ensures { λ s. ⌜ tells s ≡ rollbackDone r ⌝ }
+{
+    let left = r.entries - 1;
+    r.entries = left;
+    r.attempted = r.attempted - 1;
+    r.applied = least(r.applied, left);
+    if left == 0 {
+        Stepped {
+            answer: Answer::Finished,
+            state: leaving(r),
+        }
+    } else {
+        Stepped {
+            answer: Answer::More,
+            state: r,
+        }
+    }
+}
+
+// A report of the undoing of the last action.
+pub fn report_rollback(r: Record, found: Findings, ticket: u64, outcome: Outcome) -> Stepped
+    ensures { λ s. ⌜ tells s ≡ reportRollbackStep (found .sized) (found .sound) r ticket outcome ⌝ }
+{
+    let gate = report_gate(r, found, Live::ROLLBACK, ticket);
+    if let Gate::Shut(why) = gate {
+        return r.refuse(why);
+    }
+    let spent = r.with_ticket(r.serial, Live::None);
+    reported(spent, outcome, rollback_done(spent))
+}

@@ -1,0 +1,81 @@
+// The report of a phase's structure work.
+use super::report_gate;
+use super::reported;
+use phases::Next;
+use phases::Phase;
+use record::Answer;
+use record::Findings;
+use record::Live;
+use record::Outcome;
+use record::Record;
+use record::Refusal;
+use record::Stepped;
+use wholeness::Gate;
+ghost use mathlib.Core.Path.{_≡_};
+ghost use Prim.Native.Nat.{_≤_};
+ghost use Rattle.record.specs.Answers.{tells};
+ghost use Rattle.step_reports.specs.Done.{advanced, structureDone};
+ghost use Rattle.step_reports.specs.Reports.{reportStructureStep};
+
+// On to the successor of the phase, and the count of that way is raised.
+fn advanced(mut r: Record) -> Record
+    requires { ⌜ (r .forward ≤ 5) × (r .back ≤ 4) ⌝ }
+    ensures { λ s. ⌜ s ≡ advanced r ⌝ }
+{
+    let p = r.phase.number;
+    let found = r.phase.successor();
+    let Next::To(next) = found else {
+        return r;
+    };
+    r.phase = next;
+    if p <= Phase::ADOPT {
+        r.forward = r.forward + 1;
+        return r;
+    }
+    r.back = r.back + 1;
+    r
+}
+
+// The phase's work is done.
+fn structure_done(r: Record) -> Stepped
+    requires { ⌜ (r .forward ≤ 5) × (r .back ≤ 4) ⌝ }
+    ensures { λ s. ⌜ tells s ≡ structureDone r ⌝ }
+{
+    let next = advanced(r);
+    if next.phase.boundary() {
+        Stepped {
+            answer: Answer::Finished,
+            state: next,
+        }
+    } else {
+        Stepped {
+            answer: Answer::More,
+            state: next,
+        }
+    }
+}
+
+// A report of structure work, with the lengths of the candidate and recovery payloads that it stores.
+pub fn report_structure(
+    r: Record,
+    found: Findings,
+    ticket: u64,
+    outcome: Outcome,
+    candidate: usize,
+    recovery: usize,
+) -> Stepped
+    ensures { λ s. ⌜ tells s ≡ reportStructureStep (found .sized) (found .sound) r ticket outcome candidate recovery ⌝ }
+{
+    let gate = report_gate(r, found, Live::STRUCTURE, ticket);
+    if let Gate::Shut(why) = gate {
+        return r.refuse(why);
+    }
+    if (areas::SIZE < candidate) | (areas::SIZE < recovery) {
+        return r.refuse(Refusal::TooLong);
+    }
+    let mut stored = r;
+    stored.candidate = candidate;
+    stored.recovery = recovery;
+    let spent = stored.with_ticket(r.serial, Live::None);
+    reported(spent, outcome, structure_done(spent))
+}

@@ -1,0 +1,47 @@
+// The report of an action's update.
+use super::report_gate;
+use super::reported;
+use record::Answer;
+use record::Findings;
+use record::Live;
+use record::Outcome;
+use record::Record;
+use record::Stepped;
+use wholeness::Gate;
+ghost use mathlib.Core.Path.{_≡_};
+ghost use Prim.Native.Nat.{_≤_};
+ghost use Rattle.batch.specs.Batch.{limit};
+ghost use Rattle.record.specs.Answers.{tells};
+ghost use Rattle.step_reports.specs.Done.{updateDone};
+ghost use Rattle.step_reports.specs.Reports.{reportUpdateStep};
+
+// One more action is applied.
+fn update_done(mut r: Record) -> Stepped
+    requires { ⌜ r .applied ≤ limit ⌝ }
+    ensures { λ s. ⌜ tells s ≡ updateDone r ⌝ }
+{
+    r.applied = r.applied + 1;
+    if r.applied == r.entries {
+        Stepped {
+            answer: Answer::Finished,
+            state: r.adopting(),
+        }
+    } else {
+        Stepped {
+            answer: Answer::More,
+            state: r,
+        }
+    }
+}
+
+// A report of the update of the action number applied.
+pub fn report_update(r: Record, found: Findings, ticket: u64, outcome: Outcome) -> Stepped
+    ensures { λ s. ⌜ tells s ≡ reportUpdateStep (found .sized) (found .sound) r ticket outcome ⌝ }
+{
+    let gate = report_gate(r, found, Live::UPDATE, ticket);
+    if let Gate::Shut(why) = gate {
+        return r.refuse(why);
+    }
+    let spent = r.with_ticket(r.serial, Live::None);
+    reported(spent, outcome, update_done(spent))
+}
