@@ -3,6 +3,8 @@ use Prim.Native.Nat.{ℕ}
 use mathlib.Core.Bool.{Bool, true}
 use Rattle.record.specs.Answers.{Told, told}
 use Rattle.record.specs.declared.Record.{Record}
+use Rattle.record.specs.declared.Opening.{Opening}
+use Rattle.record.specs.declared.Beginning.{Beginning}
 use Rattle.record.specs.declared.Outcome.{Outcome}
 use Rattle.step_begins.specs.Opening.{openStep}
 use Rattle.step_begins.specs.Beginning.{beginStep, editStep}
@@ -10,6 +12,7 @@ use Rattle.step_asks.specs.Asks.{askStructureStep, askUpdateStep, askRollbackSt
 use Rattle.step_reports.specs.Reports.{reportStructureStep, reportUpdateStep, reportRollbackStep}
 use Rattle.step_ends.specs.Ending.{commitStep, recoverStep, recoverRetainedStep, refreshStep}
 use Rattle.step_stamps.specs.Stamping.{stampStep, checkStep}
+use Rattle.step_stamps.specs.declared.SaveStamp.{SaveStamp}
 
 -- the kinds of work that are asked for and reported
 pub data Work : Type 0 where
@@ -23,7 +26,7 @@ pub data Report : Type 0 where
 
 -- the calls on a record; begin with the flag of a structural one
 pub data Call : Type 0 where
-  begin : (structural : Bool) (candidate recovery actions : ℕ) → Call
+  begin : (structural : Bool) → Beginning → Call
   ask : Work → Call
   report : Report → (ticket : ℕ) → Outcome → Call
   edit : (candidate recovery : ℕ) → Call
@@ -32,12 +35,12 @@ pub data Call : Type 0 where
   recoverRetained : Call
   refresh : (length : ℕ) → Call
   stamp : (domain : ℕ) → Call
-  check : (domain stampDomain stampRevision : ℕ) → Call
+  check : (domain : ℕ) → SaveStamp → Call
 
 -- what a call answers and leaves; the first test says whether all that it is lent has the right size, the second whether the head of
 -- the log that it goes through is sound
 abbrev pub stepWith : Bool → Bool → Record → Call → Told
-stepWith sized sound r (begin structural c o n) = beginStep sized sound structural r c o n
+stepWith sized sound r (begin structural b) = beginStep sized sound structural r b
 stepWith sized sound r (ask structure) = askStructureStep sized sound r
 stepWith sized sound r (ask update) = askUpdateStep sized sound r
 stepWith sized sound r (ask rollback) = askRollbackStep sized sound r
@@ -50,7 +53,7 @@ stepWith sized sound r (recover n) = recoverStep sized sound r n
 stepWith sized sound r recoverRetained = recoverRetainedStep sized sound r
 stepWith sized sound r (refresh n) = refreshStep sized sound r n
 stepWith sized sound r (stamp domain) = told (stampStep r domain) r
-stepWith sized sound r (check domain d v) = told (checkStep r domain d v) r
+stepWith sized sound r (check domain s) = told (checkStep r domain s) r
 
 -- "the log aside and every area of the right size"
 abbrev pub step : Record → Call → Told
@@ -58,9 +61,9 @@ step r c = stepWith true true r c
 
 -- every call of document 01: an opening, which is given no record and stands only at the start of a chain, and the calls on a record
 pub data AnyCall : Type 0 where
-  opens : (revision serial accepted : ℕ) → AnyCall
+  opens : Opening → (accepted : ℕ) → AnyCall
   calls : Call → AnyCall
 
 abbrev pub stepOf : Bool → Bool → Record → AnyCall → Told
-stepOf sized sound r (opens revision serial accepted) = openStep sized revision serial accepted
+stepOf sized sound r (opens given accepted) = openStep sized given accepted
 stepOf sized sound r (calls c) = stepWith sized sound r c

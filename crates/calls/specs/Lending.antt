@@ -8,9 +8,11 @@ use Rattle.choice.specs.Pick.{_and_}
 use Rattle.areas.specs.Areas.{sized, copied}
 use Rattle.batch.specs.Batch.{tableSized, paired, pairsIn, stored}
 use Rattle.record.specs.Leaves.{Leaves, moving}
+use Rattle.record.specs.Given.{beginning}
+use Rattle.record.specs.declared.Opening.{Opening}
 use Rattle.record.specs.declared.Record.{Record}
 use Rattle.record.specs.declared.Outcome.{Outcome}
-use Rattle.step_begins.specs.Opening.{opening}
+use Rattle.step_stamps.specs.declared.SaveStamp.{SaveStamp}
 use Rattle.calls.specs.Calls.{Work, Report, Call, AnyCall, stepOf}
 use Rattle.calls.specs.Calls.AnyCall.{opens, calls}
 
@@ -22,7 +24,7 @@ pub data Stored : Type 0 where
 -- a call with all that it is lent; those of Lending true are the recorder's too: "Opening, stamps and edits are not written", and of
 -- these only the opening is lent the log
 pub data Lending : Bool → Type 0 where
-  openAt : {logged : Bool} (revision serial : ℕ) (accepted payload : List ℕ) → Lending logged
+  openAt : {logged : Bool} → Opening → (accepted payload : List ℕ) → Lending logged
   begin : {logged : Bool} (structural : Bool) (candidate recovery table new old pairs : List ℕ) → Lending logged
   ask : {logged : Bool} → Work → Lending logged
   report : {logged : Bool} → Stored → (ticket : ℕ) → Outcome → Lending logged
@@ -32,7 +34,7 @@ pub data Lending : Bool → Type 0 where
   recoverRetained : {logged : Bool} (accepted recovery exchange : List ℕ) → Lending logged
   refresh : {logged : Bool} (accepted exchange : List ℕ) (length : ℕ) → Lending logged
   stamp : (domain : ℕ) → Lending false
-  check : (domain stampDomain stampRevision : ℕ) → Lending false
+  check : (domain : ℕ) → SaveStamp → Lending false
 
 -- the call, payloads by their lengths
 abbrev pub reportOf : Stored → Report
@@ -41,8 +43,8 @@ reportOf (updated t payload) = Report.updated
 reportOf (rolledBack t payload) = Report.rolledBack
 
 abbrev pub callOf : {logged : Bool} → Lending logged → AnyCall
-callOf (openAt v s a p) = opens v s (length p)
-callOf (begin structural c o t new old pairs) = calls (Call.begin structural (length new) (length old) (length pairs / 2))
+callOf (openAt given a p) = opens given (length p)
+callOf (begin structural c o t new old pairs) = calls (Call.begin structural (beginning (length new) (length old) (length pairs / 2)))
 callOf (ask w) = calls (Call.ask w)
 callOf (report s ticket outcome) = calls (Call.report (reportOf s) ticket outcome)
 callOf (edit c o new old) = calls (Call.edit (length new) (length old))
@@ -51,7 +53,7 @@ callOf (recover a x n) = calls (Call.recover n)
 callOf (recoverRetained a o x) = calls Call.recoverRetained
 callOf (refresh a x n) = calls (Call.refresh n)
 callOf (stamp domain) = calls (Call.stamp domain)
-callOf (check domain d v) = calls (Call.check domain d v)
+callOf (check domain s) = calls (Call.check domain s)
 
 -- "an area, table, pair list .. of a wrong size" is none of it
 abbrev pub storedFits : Stored → Bool
@@ -60,7 +62,7 @@ storedFits (updated t payload) = tableSized t
 storedFits (rolledBack t payload) = tableSized t
 
 abbrev pub fits : {logged : Bool} → Lending logged → Bool
-fits (openAt v s a p) = sized a
+fits (openAt given a p) = sized a
 fits (begin structural c o t new old pairs) = sized c and sized o and tableSized t and paired pairs
 fits (ask w) = true
 fits (report s ticket outcome) = storedFits s
@@ -70,7 +72,7 @@ fits (recover a x n) = sized a and sized x
 fits (recoverRetained a o x) = sized a and sized o and sized x
 fits (refresh a x n) = sized a and sized x
 fits (stamp domain) = true
-fits (check domain d v) = true
+fits (check domain s) = true
 
 -- the areas and the table that are lent, in the order of the contract; payloads and pairs are only read, by their types, and so is the
 -- recovery area of a recovery from it
@@ -80,7 +82,7 @@ storedLent (updated t payload) = t ∷ []
 storedLent (rolledBack t payload) = t ∷ []
 
 abbrev pub lent : {logged : Bool} → Lending logged → List (List ℕ)
-lent (openAt v s a p) = a ∷ []
+lent (openAt given a p) = a ∷ []
 lent (begin structural c o t new old pairs) = c ∷ o ∷ t ∷ []
 lent (ask w) = []
 lent (report s ticket outcome) = storedLent s
@@ -90,7 +92,7 @@ lent (recover a x n) = a ∷ x ∷ []
 lent (recoverRetained a o x) = a ∷ o ∷ x ∷ []
 lent (refresh a x n) = a ∷ x ∷ []
 lent (stamp domain) = []
-lent (check domain d v) = []
+lent (check domain s) = []
 
 -- what a call that is not refused leaves of them: "Unless refused they .. store the payloads", of a structure report both, and the
 -- "payload of action number applied" or "of the last action"
@@ -101,7 +103,7 @@ storedMoved r (rolledBack t payload) = stored (r .entries - 1) payload t ∷ []
 
 abbrev pub moved : {logged : Bool} → Record → Lending logged → List (List ℕ)
 -- "accepted payload copied"
-moved r (openAt v s a p) = copied p a ∷ []
+moved r (openAt given a p) = copied p a ∷ []
 -- "Copies both payloads and the pairs"
 moved r (begin structural c o t new old pairs) = copied new c ∷ copied old o ∷ pairsIn pairs t ∷ []
 moved r (ask w) = []
@@ -116,13 +118,11 @@ moved r (recoverRetained a o x) = o ∷ o ∷ a ∷ []
 -- "exchanges areas as recover does"
 moved r (refresh a x n) = x ∷ a ∷ []
 moved r (stamp domain) = []
-moved r (check domain d v) = []
+moved r (check domain s) = []
 
--- what a call of the transaction answers and leaves
+-- what a call of the transaction answers and leaves; an opening is given no record, and `unopened`, which its refusal returns, stands
+-- in its place
 abbrev pub leavesOf : Record → Lending false → Leaves
 leavesOf r c = moving (stepOf (fits c) true r (callOf c)) (lent c) (moved r c)
 
--- an opening is given no record; in its place stands the one that its refusal returns: "the record of an opening at 0, 0 with an empty
--- payload"
-abbrev pub unopened : Record
-unopened = opening 0 0 0
+pub use Rattle.step_begins.specs.Opening.{unopened}

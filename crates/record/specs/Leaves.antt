@@ -3,7 +3,8 @@
 use Prim.Native.Nat.{ℕ}
 use mathlib.Core.List.{List}
 use Rattle.choice.specs.Pick.{pick}
-use Rattle.record.specs.Answers.{Told, refused}
+use Rattle.record.specs.Classes.{refused}
+use Rattle.record.specs.Answers.{Told}
 
 pub record Leaves : Type 0 where
   pub told : Told
@@ -14,4 +15,4 @@ leaves t l = record { told = t; lent = l }
 
 -- "Numbers 1 to 13 are refusals ..; then nothing changes": what was lent stays, and else is what the step moves it to
 abbrev pub moving : Told → List (List ℕ) → List (List ℕ) → Leaves
-moving t lent moved = leaves t (pick (refused (t .number)) lent moved)
+moving t lent moved = leaves t (pick (refused (t .class)) lent moved)

@@ -1,8 +1,11 @@
-// The number that document 01 gives each answer, and which answers are refusals.
+// The number that document 01 gives each answer, and the classes of answers: which are refusals, and which of an ask or a report are
+// written to the log.
 use super::Answer;
 use super::Refusal;
+use super::Stepped;
 ghost use mathlib.Core.Path.{_≡_};
-ghost use Rattle.record.specs.Answers.{refusalNumber, says, refused};
+ghost use Rattle.record.specs.Classes.{refusalNumber, refused, entered, stepWritten};
+ghost use Rattle.record.specs.Answers.{says, tells};
 
 impl Refusal {
     pub fn number(self) -> u64
@@ -24,6 +27,14 @@ impl Refusal {
             Refusal::NoStatus => 13,
         }
     }
+
+    // Whether an ask that is refused so is written all the same.
+    pub fn is_entered(self) -> bool
+        ensures { λ b. ⌜ b ≡ entered self ⌝ }
+    {
+        let n = self.number();
+        (n == Refusal::NotReady.number()) | (n == Refusal::Recovering.number())
+    }
 }
 
 impl Answer {
@@ -41,11 +52,36 @@ impl Answer {
         }
     }
 
+    // Whether an ask or a report with this answer is written.
+    pub fn is_written(self) -> bool
+        ensures { λ b. ⌜ b ≡ stepWritten (says self .class) ⌝ }
+    {
+        match self {
+            Answer::Done(_) => false,
+            Answer::Refused(why) => why.is_entered(),
+            Answer::Ticket { number: _, item: _ } => true,
+            Answer::Waiting => true,
+            Answer::Failed(_) => true,
+            Answer::More => true,
+            Answer::Finished => true,
+        }
+    }
+}
+
+impl Stepped {
     // Whether nothing was done.
     pub fn is_refused(self) -> bool
-        ensures { λ b. ⌜ b ≡ refused (says self .number) ⌝ }
+        ensures { λ b. ⌜ b ≡ refused (tells self .class) ⌝ }
     {
-        let n = self.number();
-        (1 <= n) & (n <= 13)
+        let answer = self.answer;
+        match answer {
+            Answer::Refused(_) => true,
+            Answer::Done(_) => false,
+            Answer::Ticket { number: _, item: _ } => false,
+            Answer::Waiting => false,
+            Answer::Failed(_) => false,
+            Answer::More => false,
+            Answer::Finished => false,
+        }
     }
 }

@@ -5,7 +5,8 @@ mod tickets;
 use phases::Phase;
 ghost use mathlib.Core.Path.{_≡_};
 ghost use Rattle.record.specs.Fields.{withTicket, adopting};
-ghost use Rattle.record.specs.Answers.{refuse, tells};
+ghost use Rattle.record.specs.Answers.{answer, refuse, tells};
+ghost use Rattle.record.specs.Given.{ofSizes};
 
 // The largest u64: no revision is committed over it, and no serial is given past it.
 pub const MAX: u64 = 18446744073709551615;
@@ -39,6 +40,13 @@ pub struct Record {
 pub struct Opening {
     pub revision: u64,
     pub serial: u64,
+}
+
+// What a begin is given besides its flag: the lengths of both payloads, and the number of actions.
+pub struct Beginning {
+    pub candidate: usize,
+    pub recovery: usize,
+    pub actions: usize,
 }
 
 // What was found of all that a call is lent together: that every size is right, and that what is read in it is sound.
@@ -94,6 +102,18 @@ pub struct Stepped {
     pub state: Record,
 }
 
+impl Findings {
+    // Of sizes alone, where nothing that is lent is read.
+    pub fn of(sized: bool) -> Findings
+        ensures { λ f. ⌜ f ≡ ofSizes sized ⌝ }
+    {
+        Findings {
+            sized: sized,
+            sound: true,
+        }
+    }
+}
+
 impl Record {
     // The same record with another serial and live ticket.
     pub fn with_ticket(self, serial: u64, live: Live) -> Record
@@ -128,13 +148,20 @@ impl Record {
         self
     }
 
+    // An answer, with this record after it.
+    pub fn answering(self, given: Answer) -> Stepped
+        ensures { λ s. ⌜ tells s ≡ answer given self ⌝ }
+    {
+        Stepped {
+            answer: given,
+            state: self,
+        }
+    }
+
     // A refusal returns the record equal.
     pub fn refuse(self, why: Refusal) -> Stepped
         ensures { λ s. ⌜ tells s ≡ refuse why self ⌝ }
     {
-        Stepped {
-            answer: Answer::Refused(why),
-            state: self,
-        }
+        self.answering(Answer::Refused(why))
     }
 }

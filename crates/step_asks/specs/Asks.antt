@@ -2,13 +2,14 @@
 -- Assumes nothing.
 use Prim.Native.Nat.{ℕ, _+_, _-_}
 use mathlib.Core.Bool.{Bool, true, not}
+use mathlib.Core.List.{[], _∷_}
 use lib.Dec.{eqb, leb, ltb}
 use Rattle.choice.specs.Pick.{pick, _and_, _or_}
 use Rattle.phases.specs.Phases.{none, remove, updates, ready, undo, recoverRemove, recovered}
 use Rattle.record.specs.Fields.{top}
 use Rattle.record.specs.Fields.{withTicket, withPlace, withBatch, spent, adopting}
-use Rattle.record.specs.Answers.{Told, answer, refuse}
-use Rattle.wholeness.specs.Gates.{gateOf, gated}
+use Rattle.record.specs.Answers.{Told, answer}
+use Rattle.wholeness.specs.Gates.{gateOf, gated, _whenever_, barring}
 use Rattle.record.specs.declared.Record.{Record}
 use Rattle.record.specs.declared.Live.{Live}
 use Rattle.record.specs.declared.Live.the-variants.{Structure, Update, Rollback}
@@ -26,9 +27,9 @@ worn r = eqb (r .serial) top
 -- "Ask structure: phases 0, 5, 8 give 4; 7 and 13 give Finished; else 11, or a ticket"
 unfoldable pub askStructureOwn : Record → Told
 askStructureOwn r =
-    pick (eqb (r .phase .number) none or eqb (r .phase .number) updates or eqb (r .phase .number) undo) (refuse NotReady r)
+    barring (NotReady whenever (eqb (r .phase .number) none or eqb (r .phase .number) updates or eqb (r .phase .number) undo) ∷ []) r
     (pick (eqb (r .phase .number) ready or eqb (r .phase .number) recovered) (answer Finished r)
-    (pick (worn r) (refuse Worn r)
+    (barring (Worn whenever worn r ∷ []) r
     (issue Structure (r .phase .number) r)))
 
 -- "attempted becomes applied + 1"
@@ -39,9 +40,9 @@ started r = withBatch (r .entries) (r .applied) (r .applied + 1) (r .restoring) 
 -- or a ticket, and attempted becomes applied + 1."
 unfoldable pub askUpdateOwn : Record → Told
 askUpdateOwn r =
-    pick (not (eqb (r .phase .number) none or eqb (r .phase .number) updates) or r .restoring) (refuse Recovering r)
+    barring (Recovering whenever (not (eqb (r .phase .number) none or eqb (r .phase .number) updates) or r .restoring) ∷ []) r
     (pick (eqb (r .applied) (r .entries)) (answer Finished (adopting r))
-    (pick (worn r) (refuse Worn r)
+    (barring (Worn whenever worn r ∷ []) r
     (issue Update (r .applied) (started r))))
 
 -- "restoring is set, entries = attempted", and "a phase 1 to 7 becomes" to
@@ -56,7 +57,7 @@ turned to r =
 unfoldable pub askRollbackOwn : Record → Told
 askRollbackOwn r =
     pick (leb recoverRemove (r .phase .number)) (answer Finished r)
-    (pick (ltb 0 (r .attempted) and worn r) (refuse Worn r)
+    (barring (Worn whenever (ltb 0 (r .attempted) and worn r) ∷ []) r
     (pick (eqb (r .attempted) 0) (answer Finished (spent (turned recoverRemove r)))
     (issue Rollback (r .attempted - 1) (turned undo r))))
 

@@ -1,21 +1,23 @@
 -- Document 01, "The steps": open. Assumes nothing.
 use Prim.Native.Nat.{ℕ}
 use mathlib.Core.Bool.{Bool, false, not}
-use Rattle.choice.specs.Pick.{pick}
+use mathlib.Core.List.{[], _∷_}
 use Rattle.phases.specs.Phases.{none}
-use Rattle.areas.specs.Areas.{long}
-use Rattle.record.specs.Answers.{Told, answer, refuse}
+use Rattle.record.specs.Answers.{Told, answer}
+use Rattle.record.specs.Given.{at}
+use Rattle.record.specs.declared.Opening.{Opening}
+use Rattle.wholeness.specs.Gates.{_whenever_, barring, longSnapshot}
 use Rattle.record.specs.declared.Record.{Record}
 use Rattle.record.specs.declared.Live.the-variants.{None}
 use Rattle.record.specs.declared.Answer.the-variants.{Done}
 use Rattle.record.specs.declared.Was.the-variants.{Nothing}
-use Rattle.record.specs.declared.Refusal.the-variants.{BadArea, TooLong}
+use Rattle.record.specs.declared.Refusal.the-variants.{BadArea}
 
 -- "accepted payload copied, all else as after a commit": idle, counts 0, not restoring, candidate and recovery lengths 0
-unfoldable pub opening : ℕ → ℕ → ℕ → Record
-opening revision serial accepted = record {
-  revision = revision;
-  serial = serial;
+unfoldable pub opening : Opening → ℕ → Record
+opening given accepted = record {
+  revision = given .revision;
+  serial = given .serial;
   accepted = accepted;
   candidate = 0;
   recovery = 0;
@@ -30,9 +32,12 @@ opening revision serial accepted = record {
   live = None;
 }
 
--- "Refuses 6, 8, and then returns the record of an opening at 0, 0 with an empty payload."
-unfoldable pub openStep : Bool → ℕ → ℕ → ℕ → Told
-openStep sized revision serial accepted =
-    pick (not sized) (refuse BadArea (opening 0 0 0))
-    (pick (long accepted) (refuse TooLong (opening 0 0 0))
-    (answer (Done Nothing) (opening revision serial accepted)))
+-- "the record of an opening at 0, 0 with an empty payload"
+abbrev pub unopened : Record
+unopened = opening (at 0 0) 0
+
+-- "Refuses 6, 8, and then returns" that record
+unfoldable pub openStep : Bool → Opening → ℕ → Told
+openStep sized given accepted =
+    barring (BadArea whenever not sized ∷ longSnapshot accepted []) unopened
+    (answer (Done Nothing) (opening given accepted))

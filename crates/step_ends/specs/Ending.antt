@@ -2,17 +2,17 @@
 use Prim.Native.Nat.{ℕ, _+_}
 use mathlib.Core.Bool.{Bool, false, not}
 use lib.Dec.{eqb, ltb}
-use Rattle.choice.specs.Pick.{pick, _or_}
+use mathlib.Core.List.{[], _∷_}
+use Rattle.choice.specs.Pick.{_or_}
 use Rattle.phases.specs.Phases.{none, ready, recovered}
-use Rattle.areas.specs.Areas.{long}
 use Rattle.wholeness.specs.Whole.{complete}
 use Rattle.record.specs.Fields.{withPlace, withBatch, withSettings, withLengths, spent}
-use Rattle.record.specs.Answers.{Told, answer, refuse}
-use Rattle.wholeness.specs.Gates.{gateOf, gated}
+use Rattle.record.specs.Answers.{Told, answer}
+use Rattle.wholeness.specs.Gates.{gateOf, gated, _whenever_, barring, longSnapshot}
 use Rattle.record.specs.declared.Record.{Record}
 use Rattle.record.specs.declared.Answer.the-variants.{Done}
 use Rattle.record.specs.declared.Was.the-variants.{One, Three}
-use Rattle.record.specs.declared.Refusal.the-variants.{Pending, Idle, NotReady, TooLong}
+use Rattle.record.specs.declared.Refusal.the-variants.{Pending, Idle, NotReady}
 
 -- "After commit and both recoveries: idle, counts 0, not restoring, candidate and recovery lengths 0."
 unfoldable pub idleAt : ℕ → ℕ → Record → Record
@@ -23,9 +23,11 @@ idleAt revision accepted r =
 -- lengths and entries"
 unfoldable pub commitOwn : Record → Told
 commitOwn r =
-    pick (not (r .staged)) (refuse Idle r)
-    (pick (not (complete r) or not (eqb (r .phase .number) none or eqb (r .phase .number) ready)) (refuse NotReady r)
-    (answer (Done (Three (r .accepted) (r .recovery) (r .entries))) (idleAt (r .revision + 1) (r .candidate) r)))
+    barring
+    (Idle whenever not (r .staged)
+    ∷ NotReady whenever (not (complete r) or not (eqb (r .phase .number) none or eqb (r .phase .number) ready))
+    ∷ []) r
+    (answer (Done (Three (r .accepted) (r .recovery) (r .entries))) (idleAt (r .revision + 1) (r .candidate) r))
 
 -- "4 if entries > 0 or phase not 0 or 13"
 unfoldable pub unrestored : Record → Bool
@@ -38,24 +40,18 @@ recoveredTo accepted r = answer (Done (Three (r .accepted) (r .candidate) (r .re
 -- "Recover (exchange area, length): 2; 4 if ..; 8."
 unfoldable pub recoverOwn : Record → ℕ → Told
 recoverOwn r length =
-    pick (not (r .staged)) (refuse Idle r)
-    (pick (unrestored r) (refuse NotReady r)
-    (pick (long length) (refuse TooLong r)
-    (recoveredTo length r)))
+    barring (Idle whenever not (r .staged) ∷ NotReady whenever unrestored r ∷ longSnapshot length []) r (recoveredTo length r)
 
 -- "Recover from the retained payload: 2, 4 alike"
 unfoldable pub recoverRetainedOwn : Record → Told
 recoverRetainedOwn r =
-    pick (not (r .staged)) (refuse Idle r)
-    (pick (unrestored r) (refuse NotReady r)
-    (recoveredTo (r .recovery) r))
+    barring (Idle whenever not (r .staged) ∷ NotReady whenever unrestored r ∷ []) r (recoveredTo (r .recovery) r)
 
 -- "Refresh: 1, 8", "refresh with the old accepted one"
 unfoldable pub refreshOwn : Record → ℕ → Told
 refreshOwn r length =
-    pick (r .staged) (refuse Pending r)
-    (pick (long length) (refuse TooLong r)
-    (answer (Done (One (r .accepted))) (withLengths length (r .candidate) (r .recovery) r)))
+    barring (Pending whenever r .staged ∷ longSnapshot length []) r
+    (answer (Done (One (r .accepted))) (withLengths length (r .candidate) (r .recovery) r))
 
 abbrev pub commitStep : Bool → Bool → Record → Told
 commitStep sized sound r = gated (gateOf sized sound r) r (commitOwn r)

@@ -1,57 +1,52 @@
 -- Document 01, "The steps": the three reports, each with its own refusals in the order given, behind the gate for 6 and 7.
 -- Assumes nothing.
 use Prim.Native.Nat.{ℕ}
-use mathlib.Core.Bool.{Bool}
-use Rattle.choice.specs.Pick.{pick, _or_}
-use Rattle.areas.specs.Areas.{long}
+use mathlib.Core.Bool.{Bool, not}
+use mathlib.Core.List.{List, [], _∷_}
 use Rattle.record.specs.Live.{isLive, structure, update, rollback}
 use Rattle.record.specs.Fields.{withLengths, spent}
-use Rattle.record.specs.Answers.{Told, answer, refuse}
-use Rattle.wholeness.specs.Gates.{gateOf, gated}
+use Rattle.record.specs.Answers.{Told, answer}
+use Rattle.record.specs.Given.{Effect, effectOf}
+use Rattle.record.specs.Given.Effect.{rests, works}
+use Rattle.wholeness.specs.Gates.{gateOf, gated, Bar, _whenever_, barring, longPayloads}
 use Rattle.record.specs.declared.Record.{Record}
-use Rattle.wholeness.specs.declared.Gate.{Gate}
-use Rattle.wholeness.specs.declared.Gate.the-variants.{Open, Shut}
 use Rattle.record.specs.declared.Outcome.{Outcome}
-use Rattle.record.specs.declared.Outcome.the-variants as O
-use Rattle.record.specs.declared.Answer.the-variants.{Waiting, Failed}
-use Rattle.record.specs.declared.Refusal.the-variants.{Stale, TooLong}
+use Rattle.record.specs.declared.Refusal.the-variants.{Stale}
 use Rattle.step_reports.specs.Done.{structureDone, updateDone, rollbackDone}
 
--- a second gate behind a first
-unfoldable pub behind : Gate → Gate → Gate
-behind Open g = g
-behind (Shut why) g = Shut why
-
--- 6 and 7, and then "10": the ticket is not the live one of that kind
-unfoldable pub reportGate : Bool → Bool → Record → ℕ → ℕ → Gate
-reportGate sized sound r kind ticket = behind (gateOf sized sound r) (pick (isLive kind ticket (r .live)) Open (Shut Stale))
+-- "10": the ticket is not the live one of that kind
+abbrev pub stale : ℕ → ℕ → Record → List Bar → List Bar
+stale work ticket r next = Stale whenever not (isLive work ticket (r .live)) ∷ next
 
 -- "Waiting and Failed answer 21 and 22 and do nothing else"
-unfoldable pub reported : Outcome → Record → Told → Told
-reported O.Waiting r done = answer Waiting r
-reported (O.Failed code) r done = answer (Failed code) r
-reported O.Done r done = done
+unfoldable pub reported : Effect → Record → Told → Told
+reported (rests a) r done = answer a r
+reported works r done = done
 
 -- "store the payloads": "A length moves with its payload."
 abbrev pub storing : ℕ → ℕ → Record → Record
 storing candidate recovery r = withLengths (r .accepted) candidate recovery r
 
 -- "Report structure (both payloads): 10, 8."
-unfoldable pub reportStructureOwn : Record → Outcome → ℕ → ℕ → Told
-reportStructureOwn r outcome candidate recovery =
-    pick (long candidate or long recovery) (refuse TooLong r)
-    (reported outcome (spent (storing candidate recovery r)) (structureDone (spent (storing candidate recovery r))))
+unfoldable pub reportStructureOwn : Record → ℕ → Outcome → ℕ → ℕ → Told
+reportStructureOwn r ticket outcome candidate recovery =
+    barring (stale structure ticket r (longPayloads candidate recovery [])) r
+    (reported (effectOf outcome) (spent (storing candidate recovery r)) (structureDone (spent (storing candidate recovery r))))
 
 abbrev pub reportStructureStep : Bool → Bool → Record → ℕ → Outcome → ℕ → ℕ → Told
 reportStructureStep sized sound r ticket outcome candidate recovery =
-    gated (reportGate sized sound r structure ticket) r (reportStructureOwn r outcome candidate recovery)
+    gated (gateOf sized sound r) r (reportStructureOwn r ticket outcome candidate recovery)
 
 -- "Report update (payload of action number applied): 10."
+unfoldable pub reportUpdateOwn : Record → ℕ → Outcome → Told
+reportUpdateOwn r ticket outcome = barring (stale update ticket r []) r (reported (effectOf outcome) (spent r) (updateDone (spent r)))
+
 abbrev pub reportUpdateStep : Bool → Bool → Record → ℕ → Outcome → Told
-reportUpdateStep sized sound r ticket outcome =
-    gated (reportGate sized sound r update ticket) r (reported outcome (spent r) (updateDone (spent r)))
+reportUpdateStep sized sound r ticket outcome = gated (gateOf sized sound r) r (reportUpdateOwn r ticket outcome)
 
 -- "Report rollback (payload of the last action): 10."
+unfoldable pub reportRollbackOwn : Record → ℕ → Outcome → Told
+reportRollbackOwn r ticket outcome = barring (stale rollback ticket r []) r (reported (effectOf outcome) (spent r) (rollbackDone (spent r)))
+
 abbrev pub reportRollbackStep : Bool → Bool → Record → ℕ → Outcome → Told
-reportRollbackStep sized sound r ticket outcome =
-    gated (reportGate sized sound r rollback ticket) r (reported outcome (spent r) (rollbackDone (spent r)))
+reportRollbackStep sized sound r ticket outcome = gated (gateOf sized sound r) r (reportRollbackOwn r ticket outcome)

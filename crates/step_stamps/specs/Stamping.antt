@@ -5,9 +5,11 @@ use mathlib.Core.List.{[], _∷_}
 use lib.Dec.{eqb}
 use Rattle.choice.specs.Pick.{pick, _and_}
 use Rattle.wholeness.specs.Whole.{whole}
-use Rattle.record.specs.Answers.{Said, said, refusalNumber}
+use Rattle.record.specs.Classes.Class.{performed, refusal}
+use Rattle.record.specs.Answers.{Said, said}
 use Rattle.record.specs.declared.Record.{Record}
 use Rattle.record.specs.declared.Refusal.the-variants as why
+use Rattle.step_stamps.specs.declared.SaveStamp.{SaveStamp}
 use Rattle.step_stamps.specs.declared.Stamping.{Stamping}
 use Rattle.step_stamps.specs.declared.Stamping.the-variants as S
 use Rattle.step_stamps.specs.declared.Checked.{Checked}
@@ -15,24 +17,28 @@ use Rattle.step_stamps.specs.declared.Checked.the-variants as C
 
 -- the number and values of each case: a stamp's two numbers; "yes, no or 7", yes being 1 and no 0
 abbrev pub saysStamping : Stamping → Said
-saysStamping (S.Taken s) = said 0 (s .domain ∷ s .revision ∷ [])
-saysStamping (S.Refused w) = said (refusalNumber w) []
+saysStamping (S.Taken s) = said performed (s .domain ∷ s .revision ∷ [])
+saysStamping (S.Refused w) = said (refusal w) []
 
 abbrev pub saysChecked : Checked → Said
-saysChecked C.Passes = said 0 (1 ∷ [])
-saysChecked C.Fails = said 0 (0 ∷ [])
-saysChecked (C.Refused w) = said (refusalNumber w) []
+saysChecked C.Passes = said performed (1 ∷ [])
+saysChecked C.Fails = said performed (0 ∷ [])
+saysChecked (C.Refused w) = said (refusal w) []
 
 -- "Stamp is (domain, revision), refused 1."
+abbrev pub stampOf : ℕ → Record → SaveStamp
+stampOf domain r = record { domain = domain; revision = r .revision }
+
 unfoldable pub stampStep : Record → ℕ → Said
 stampStep r domain =
     pick (not (whole r)) (saysStamping (S.Refused why.Damaged))
-    (pick (r .staged) (saysStamping (S.Refused why.Pending)) (saysStamping (S.Taken (record { domain = domain; revision = r .revision }))))
+    (pick (r .staged) (saysStamping (S.Refused why.Pending))
+    (saysStamping (S.Taken (stampOf domain r))))
 
 -- "It passes exactly if not staged and both numbers agree."
-unfoldable pub passes : Record → ℕ → ℕ → ℕ → Bool
-passes r domain d v = not (r .staged) and eqb domain d and eqb (r .revision) v
+unfoldable pub passes : Record → ℕ → SaveStamp → Bool
+passes r domain stamp = not (r .staged) and eqb domain (stamp .domain) and eqb (r .revision) (stamp .revision)
 
-unfoldable pub checkStep : Record → ℕ → ℕ → ℕ → Said
-checkStep r domain d v =
-    pick (not (whole r)) (saysChecked (C.Refused why.Damaged)) (pick (passes r domain d v) (saysChecked C.Passes) (saysChecked C.Fails))
+unfoldable pub checkStep : Record → ℕ → SaveStamp → Said
+checkStep r domain stamp =
+    pick (not (whole r)) (saysChecked (C.Refused why.Damaged)) (pick (passes r domain stamp) (saysChecked C.Passes) (saysChecked C.Fails))

@@ -6,20 +6,20 @@ use mathlib.Core.Bool.{Bool, true, false}
 use mathlib.Core.List.{List, [], _∷_}
 use Rattle.choice.proofs.Picks.{yes, no, told}
 use Rattle.choice.proofs.Tests.{never}
-use Rattle.record.specs.Answers.{Told, tells, says, refused}
+use Rattle.record.specs.Classes.{refused}
+use Rattle.record.specs.Answers.{Told, tells}
 use Rattle.wholeness.specs.Gates.{gateOf, gated}
 use Rattle.record.specs.declared.Record.{Record}
 use Rattle.record.specs.declared.Stepped.{Stepped}
 use Rattle.wholeness.specs.declared.Gate.{Gate}
 use Rattle.wholeness.specs.declared.Gate.the-variants.{Open, Shut}
-use Rattle.record.proofs.Saying.{refused-number}
 use Rattle.wholeness.proofs.Passing.{passed}
 use Rattle.record.specs.Leaves.{leaves, moving}
 
 -- a step s, which tells the definition's d, was asked whether it is refused
-module _ (s : Stepped) {d : Told} {b : Bool} (e : tells s ≡ d) (q : b ≡ refused (says (s .answer) .number)) where
-  asked : {t : Bool} → b ≡ t → refused (d .number) ≡ t
-  asked h = told (q ∙ ap (λ (x : Told). refused (x .number)) e) h
+module _ (s : Stepped) {d : Told} {b : Bool} (e : tells s ≡ d) (q : b ≡ refused (tells s .class)) where
+  asked : {t : Bool} → b ≡ t → refused (d .class) ≡ t
+  asked h = told (q ∙ ap (λ (x : Told). refused (x .class)) e) h
 
   pub kept : {lent : List (List ℕ)} (moved : List (List ℕ)) → b ≡ true → leaves (tells s) lent ≡ moving d lent moved
   kept {lent} moved h = ap (λ (x : Told). leaves x lent) e ∙ ap (leaves d) (yes moved (asked h) refl)
@@ -34,11 +34,11 @@ pub list3 : {a a' b b' c c' : List ℕ} → a ≡ a' → b ≡ b' → c ≡ c' �
 list3 p q h = cc
 
 -- a step that is not refused has passed its gate
-module _ (s : Stepped) {b : Bool} (r : Record) (own : Told) (q : b ≡ refused (says (s .answer) .number)) (h : b ≡ false) where
+module _ (s : Stepped) {b : Bool} (r : Record) (own : Told) (q : b ≡ refused (tells s .class)) (h : b ≡ false) where
   pub went : (g : Gate) → tells s ≡ gated g r own → g ≡ Open
   unfolding gated
   went Open e = refl
-  went (Shut why) e = never (sym (refused-number why) ∙ told (q ∙ ap (λ (x : Told). refused (x .number)) e) h)
+  went (Shut why) e = never (told (q ∙ ap (λ (x : Told). refused (x .class)) e) h)
 
   -- so that what it was lent has the right sizes
   pub all-sized : (fit : Bool) → tells s ≡ gated (gateOf fit true r) r own → fit ≡ true

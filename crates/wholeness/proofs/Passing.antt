@@ -7,7 +7,8 @@ use Rattle.choice.specs.Pick.{pick, _and_}
 use Rattle.choice.proofs.Tests.{both}
 use Rattle.wholeness.specs.Whole.{whole}
 use Rattle.record.specs.Answers.{Told, refuse}
-use Rattle.wholeness.specs.Gates.{gateOf, gated}
+use mathlib.Core.List.{List, [], _∷_}
+use Rattle.wholeness.specs.Gates.{gateOf, gated, Bar, barring, barred, through}
 use Rattle.record.specs.declared.Record.{Record}
 use Rattle.record.specs.declared.Refusal.{Refusal}
 use Rattle.record.specs.declared.Refusal.the-variants.{BadArea, Damaged}
@@ -40,3 +41,16 @@ pub passed : {g : Gate} (sized sound : Bool) (r : Record) → g ≡ gateOf sized
 unfolding gateOf
 passed sized sound r e h =
     opens sized (sound and whole r) (sym e ∙ h) (λ p q. record { fits = p; clean = both q .0; is-whole = both q .1 })
+
+-- a row of bars behind a gate is what the call's own refusals say
+one-more : (t : Bool) (why : Refusal) (bs : List Bar) (r : Record) (done : Told) → gated (through (Shut why) bs) r done ≡ refuse why r
+    → gated (through Open bs) r done ≡ barring bs r done → gated (through (pick t (Shut why) Open) bs) r done ≡ pick t (refuse why r) (barring bs r done)
+unfolding pick
+one-more true why bs r done p q = p
+one-more false why bs r done p q = q
+
+pub in-a-row : (g : Gate) (bs : List Bar) (r : Record) (done : Told) → gated (through g bs) r done ≡ gated g r (barring bs r done)
+unfolding gated barred
+in-a-row g [] r done = refl
+in-a-row (Shut why) (b ∷ bs) r done = in-a-row (Shut why) bs r done
+in-a-row Open (b ∷ bs) r done = one-more (b .test) (b .why) bs r done (in-a-row (Shut (b .why)) bs r done) (in-a-row Open bs r done)

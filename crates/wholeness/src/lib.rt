@@ -7,12 +7,42 @@ use record::Record;
 use record::Refusal;
 ghost use mathlib.Core.Path.{_≡_};
 ghost use Rattle.wholeness.specs.Whole.{lengthsFit, countsFit, stagedFits, forwardFits, backFits, restoringFits, liveFits, whole, complete};
-ghost use Rattle.wholeness.specs.Gates.{gateOf};
+ghost use mathlib.Core.List.{[]};
+ghost use Rattle.wholeness.specs.Gates.{gateOf, barred, through, longPayloads, longSnapshot};
 
-// Whether a call goes on to its own refusals.
+// Whether a call goes on, or is refused.
 pub enum Gate {
     Open,
     Shut(Refusal),
+}
+
+impl Gate {
+    // The next refusal in a row: given where its test holds and no earlier one was.
+    pub fn bar(self, test: bool, why: Refusal) -> Gate
+        ensures { λ g. ⌜ g ≡ barred self test why ⌝ }
+    {
+        if let Gate::Shut(first) = self {
+            return Gate::Shut(first);
+        }
+        if test {
+            return Gate::Shut(why);
+        }
+        Gate::Open
+    }
+
+    // A candidate or recovery payload that is too long.
+    pub fn bar_payloads(self, candidate: usize, recovery: usize) -> Gate
+        ensures { λ g. ⌜ g ≡ through self (longPayloads candidate recovery []) ⌝ }
+    {
+        self.bar((areas::SIZE < candidate) | (areas::SIZE < recovery), Refusal::TooLong)
+    }
+
+    // A snapshot that is too long.
+    pub fn bar_snapshot(self, length: usize) -> Gate
+        ensures { λ g. ⌜ g ≡ through self (longSnapshot length []) ⌝ }
+    {
+        self.bar(areas::SIZE < length, Refusal::TooLong)
+    }
 }
 
 fn lengths_fit(r: Record) -> bool

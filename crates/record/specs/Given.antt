@@ -1,0 +1,33 @@
+-- What a call is given and found to be lent, as values: openings, begins, what is found of sizes alone, and what an outcome asks for.
+-- Assumes nothing.
+use Prim.Native.Nat.{ℕ}
+use mathlib.Core.Bool.{Bool, true}
+use Rattle.record.specs.declared.Opening.{Opening}
+use Rattle.record.specs.declared.Beginning.{Beginning}
+use Rattle.record.specs.declared.Findings.{Findings}
+use Rattle.record.specs.declared.Answer.{Answer}
+use Rattle.record.specs.declared.Answer.the-variants as A
+use Rattle.record.specs.declared.Outcome.{Outcome}
+use Rattle.record.specs.declared.Outcome.the-variants.{Waiting, Failed, Done}
+
+-- "revision and serial are given"
+abbrev pub at : ℕ → ℕ → Opening
+at revision serial = record { revision = revision; serial = serial }
+
+-- "both payloads and the pairs", by their lengths and their number
+abbrev pub beginning : ℕ → ℕ → ℕ → Beginning
+beginning candidate recovery actions = record { candidate = candidate; recovery = recovery; actions = actions }
+
+-- where nothing that is lent is read, all of it is sound
+abbrev pub ofSizes : Bool → Findings
+ofSizes sized = record { sized = sized; sound = true }
+
+-- "an outcome (Waiting, Failed with a u64 code, Done)": "Waiting and Failed answer 21 and 22 and do nothing else"
+pub data Effect : Type 0 where
+  rests : Answer → Effect
+  works : Effect
+
+abbrev pub effectOf : Outcome → Effect
+effectOf Waiting = rests A.Waiting
+effectOf (Failed code) = rests (A.Failed code)
+effectOf Done = works
