@@ -13,6 +13,7 @@ use Rattle.record.specs.declared.Opening.{Opening}
 use Rattle.record.specs.declared.Record.{Record}
 use Rattle.record.specs.declared.Outcome.{Outcome}
 use Rattle.step_stamps.specs.declared.SaveStamp.{SaveStamp}
+pub use Rattle.step_begins.specs.Opening.{unopened}
 use Rattle.calls.specs.Calls.{Work, Report, Call, AnyCall, stepOf}
 use Rattle.calls.specs.Calls.AnyCall.{opens, calls}
 
@@ -124,5 +125,3 @@ moved r (check domain s) = []
 -- in its place
 abbrev pub leavesOf : Record → Lending false → Leaves
 leavesOf r c = moving (stepOf (fits c) true r (callOf c)) (lent c) (moved r c)
-
-pub use Rattle.step_begins.specs.Opening.{unopened}

@@ -2,14 +2,14 @@
 use Prim.Native.Nat.{ℕ}
 use mathlib.Core.Bool.{Bool, true, false, not}
 use lib.Dec.{eqb, ltb}
-use mathlib.Core.List.{[], _∷_}
+use mathlib.Core.List.{List, [], _∷_}
 use Rattle.choice.specs.Pick.{pick}
 use Rattle.phases.specs.Phases.{none, remove}
 use Rattle.batch.specs.Batch.{limit}
 use Rattle.record.specs.Fields.{top}
 use Rattle.record.specs.Fields.{withPlace, withBatch, withSettings, withLengths, spent}
 use Rattle.record.specs.Answers.{Told, answer}
-use Rattle.wholeness.specs.Gates.{gateOf, gated, _whenever_, barring, longPayloads}
+use Rattle.wholeness.specs.Gates.{gateOf, gated, Bar, _whenever_, barring, longPayloads}
 use Rattle.record.specs.declared.Record.{Record}
 use Rattle.record.specs.declared.Beginning.{Beginning}
 use Rattle.record.specs.declared.Answer.the-variants.{Done}
@@ -26,25 +26,29 @@ begun phase b r =
     spent (withPlace phase 0 0 (withBatch (b .actions) 0 0 false
     (withSettings (r .revision) true (withLengths (r .accepted) (b .candidate) (b .recovery) r))))
 
--- "Begin, begin structural: 1, 3, 8, 9. Copies both payloads and the pairs"
-unfoldable pub beginOwn : Bool → Record → Beginning → Told
-beginOwn structural r b =
-    barring
-    (Pending whenever r .staged
+-- "Begin, begin structural: 1, 3, 8, 9."
+abbrev pub beginBars : Record → Beginning → List Bar
+beginBars r b =
+    Pending whenever r .staged
     ∷ Capacity whenever eqb (r .revision) top
     ∷ longPayloads (b .candidate) (b .recovery)
     (TooMany whenever ltb limit (b .actions)
-    ∷ [])) r
-    (answer (Done Nothing) (begun (firstPhase structural) b r))
+    ∷ [])
+
+-- "Copies both payloads and the pairs"
+unfoldable pub beginOwn : Bool → Record → Beginning → Told
+beginOwn structural r b = barring (beginBars r b) r (answer (Done Nothing) (begun (firstPhase structural) b r))
 
 abbrev pub beginStep : Bool → Bool → Bool → Record → Beginning → Told
 beginStep sized sound structural r b = gated (gateOf sized sound r) r (beginOwn structural r b)
 
 -- "Edit replaces both payloads: 2, 8. All else, phase included, is kept."
+abbrev pub editBars : Record → ℕ → ℕ → List Bar
+editBars r candidate recovery = Idle whenever not (r .staged) ∷ longPayloads candidate recovery []
+
 unfoldable pub editOwn : Record → ℕ → ℕ → Told
 editOwn r candidate recovery =
-    barring (Idle whenever not (r .staged) ∷ longPayloads candidate recovery []) r
-    (answer (Done Nothing) (withLengths (r .accepted) candidate recovery r))
+    barring (editBars r candidate recovery) r (answer (Done Nothing) (withLengths (r .accepted) candidate recovery r))
 
 abbrev pub editStep : Bool → Bool → Record → ℕ → ℕ → Told
 editStep sized sound r candidate recovery = gated (gateOf sized sound r) r (editOwn r candidate recovery)

@@ -1,12 +1,12 @@
 -- Document 01, "The steps": open. Assumes nothing.
 use Prim.Native.Nat.{ℕ}
 use mathlib.Core.Bool.{Bool, false, not}
-use mathlib.Core.List.{[], _∷_}
+use mathlib.Core.List.{List, [], _∷_}
 use Rattle.phases.specs.Phases.{none}
 use Rattle.record.specs.Answers.{Told, answer}
 use Rattle.record.specs.Given.{at}
 use Rattle.record.specs.declared.Opening.{Opening}
-use Rattle.wholeness.specs.Gates.{_whenever_, barring, longSnapshot}
+use Rattle.wholeness.specs.Gates.{Bar, _whenever_, barring, longSnapshot}
 use Rattle.record.specs.declared.Record.{Record}
 use Rattle.record.specs.declared.Live.the-variants.{None}
 use Rattle.record.specs.declared.Answer.the-variants.{Done}
@@ -37,7 +37,8 @@ abbrev pub unopened : Record
 unopened = opening (at 0 0) 0
 
 -- "Refuses 6, 8, and then returns" that record
+abbrev pub openBars : Bool → ℕ → List Bar
+openBars sized accepted = BadArea whenever not sized ∷ longSnapshot accepted []
+
 unfoldable pub openStep : Bool → Opening → ℕ → Told
-openStep sized given accepted =
-    barring (BadArea whenever not sized ∷ longSnapshot accepted []) unopened
-    (answer (Done Nothing) (opening given accepted))
+openStep sized given accepted = barring (openBars sized accepted) unopened (answer (Done Nothing) (opening given accepted))

@@ -1,6 +1,7 @@
 // Beginning a transaction, and editing what is staged.
 use phases::Phase;
 use record::Answer;
+use record::Beginning;
 use record::Findings;
 use record::Live;
 use record::Record;
@@ -9,20 +10,24 @@ use record::Stepped;
 use record::Was;
 use wholeness::Gate;
 ghost use mathlib.Core.Path.{_≡_};
+ghost use Prim.Native.Nat.{_≤_};
+ghost use Rattle.batch.specs.Batch.{limit};
 ghost use Rattle.record.specs.Answers.{tells};
-ghost use Rattle.step_begins.specs.Beginning.{firstPhase, begun, beginStep, editStep};
+ghost use Rattle.step_begins.specs.Beginning.{firstPhase, begun, beginBars, beginStep, editBars, editStep};
+ghost use Rattle.wholeness.specs.Gates.{gateOf, through};
 
 // A staged record in a first phase, with every count 0 but the entries.
-fn begun(mut r: Record, phase: u8, candidate: usize, recovery: usize, entries: u32) -> Record
-    ensures { λ s. ⌜ s ≡ begun phase candidate recovery entries r ⌝ }
+fn begun(mut r: Record, phase: u8, given: Beginning) -> Record
+    requires { ⌜ given .actions ≤ limit ⌝ }
+    ensures { λ s. ⌜ s ≡ begun phase given r ⌝ }
 {
-    r.candidate = candidate;
-    r.recovery = recovery;
+    r.candidate = given.candidate;
+    r.recovery = given.recovery;
     r.staged = true;
     r.phase.number = phase;
     r.forward = 0;
     r.back = 0;
-    r.entries = entries;
+    r.entries = given.actions as u32;
     r.applied = 0;
     r.attempted = 0;
     r.restoring = false;
@@ -40,59 +45,48 @@ fn first_phase(structural: bool) -> u8
     }
 }
 
-// Begin, update-only or structural.
-pub fn begin(
-    r: Record,
-    found: Findings,
-    structural: bool,
-    candidate: usize,
-    recovery: usize,
-    actions: usize,
-) -> Stepped
-    ensures { λ s. ⌜ tells s ≡ beginStep (found .sized) (found .sound) structural r candidate recovery actions ⌝ }
+// The refusals of a begin, in their order.
+fn begin_gate(r: Record, found: Findings, given: Beginning) -> Gate
+    ensures { λ g. ⌜ g ≡ through (gateOf (found .sized) (found .sound) r) (beginBars r given) ⌝ }
 {
-    let gate = wholeness::admit(r, found);
+    wholeness::admit(r, found)
+        .bar(r.staged, Refusal::Pending)
+        .bar(r.revision == record::MAX, Refusal::Capacity)
+        .bar_payloads(given.candidate, given.recovery)
+        .bar(batch::LIMIT < given.actions, Refusal::TooMany)
+}
+
+// Begin, update-only or structural.
+pub fn begin(r: Record, found: Findings, structural: bool, given: Beginning) -> Stepped
+    ensures { λ s. ⌜ tells s ≡ beginStep (found .sized) (found .sound) structural r given ⌝ }
+{
+    let gate = begin_gate(r, found, given);
     if let Gate::Shut(why) = gate {
         return r.refuse(why);
     }
-    if r.staged {
-        return r.refuse(Refusal::Pending);
-    }
-    if r.revision == record::MAX {
-        return r.refuse(Refusal::Capacity);
-    }
-    if (areas::SIZE < candidate) | (areas::SIZE < recovery) {
-        return r.refuse(Refusal::TooLong);
-    }
-    if batch::LIMIT < actions {
-        return r.refuse(Refusal::TooMany);
-    }
     let phase = first_phase(structural);
-    Stepped {
-        answer: Answer::Done(Was::Nothing),
-        state: begun(r, phase, candidate, recovery, actions as u32),
-    }
+    begun(r, phase, given).answering(Answer::Done(Was::Nothing))
+}
+
+// The refusals of an edit, in their order.
+fn edit_gate(r: Record, found: Findings, candidate: usize, recovery: usize) -> Gate
+    ensures { λ g. ⌜ g ≡ through (gateOf (found .sized) (found .sound) r) (editBars r candidate recovery) ⌝ }
+{
+    wholeness::admit(r, found)
+        .bar(!r.staged, Refusal::Idle)
+        .bar_payloads(candidate, recovery)
 }
 
 // Both payloads are replaced; all else, the phase included, is kept.
 pub fn edit(r: Record, found: Findings, candidate: usize, recovery: usize) -> Stepped
     ensures { λ s. ⌜ tells s ≡ editStep (found .sized) (found .sound) r candidate recovery ⌝ }
 {
-    let gate = wholeness::admit(r, found);
+    let gate = edit_gate(r, found, candidate, recovery);
     if let Gate::Shut(why) = gate {
         return r.refuse(why);
-    }
-    if !r.staged {
-        return r.refuse(Refusal::Idle);
-    }
-    if (areas::SIZE < candidate) | (areas::SIZE < recovery) {
-        return r.refuse(Refusal::TooLong);
     }
     let mut edited = r;
     edited.candidate = candidate;
     edited.recovery = recovery;
-    Stepped {
-        answer: Answer::Done(Was::Nothing),
-        state: edited,
-    }
+    edited.answering(Answer::Done(Was::Nothing))
 }

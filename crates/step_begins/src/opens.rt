@@ -7,17 +7,18 @@ use record::Record;
 use record::Refusal;
 use record::Stepped;
 use record::Was;
+use wholeness::Gate;
 ghost use mathlib.Core.Path.{_≡_};
 ghost use Rattle.record.specs.Answers.{tells};
-ghost use Rattle.step_begins.specs.Opening.{opening, openStep};
+ghost use Rattle.step_begins.specs.Opening.{opening, unopened, openStep};
 
 // An idle record at a revision and a serial, with an accepted payload of a length.
-fn opened(revision: u64, serial: u64, accepted: usize) -> Record
-    ensures { λ r. ⌜ r ≡ opening revision serial accepted ⌝ }
+fn opened(given: Opening, accepted: usize) -> Record
+    ensures { λ r. ⌜ r ≡ opening given accepted ⌝ }
 {
     Record {
-        revision: revision,
-        serial: serial,
+        revision: given.revision,
+        serial: given.serial,
         accepted: accepted,
         candidate: 0,
         recovery: 0,
@@ -35,18 +36,25 @@ fn opened(revision: u64, serial: u64, accepted: usize) -> Record
     }
 }
 
-// A refused opening returns the record of an opening at 0, 0 with an empty payload.
-pub fn open(sized: bool, given: Opening, accepted: usize) -> Stepped
-    ensures { λ s. ⌜ tells s ≡ openStep sized (given .revision) (given .serial) accepted ⌝ }
+// The record that a refused opening returns: that of an opening at 0, 0 with an empty payload.
+fn unopened() -> Record
+    ensures { λ r. ⌜ r ≡ unopened ⌝ }
 {
-    if !sized {
-        return opened(0, 0, 0).refuse(Refusal::BadArea);
+    let given = Opening {
+        revision: 0,
+        serial: 0,
+    };
+    opened(given, 0)
+}
+
+pub fn open(sized: bool, given: Opening, accepted: usize) -> Stepped
+    ensures { λ s. ⌜ tells s ≡ openStep sized given accepted ⌝ }
+{
+    let gate = Gate::Open
+        .bar(!sized, Refusal::BadArea)
+        .bar_snapshot(accepted);
+    if let Gate::Shut(why) = gate {
+        return unopened().refuse(why);
     }
-    if areas::SIZE < accepted {
-        return opened(0, 0, 0).refuse(Refusal::TooLong);
-    }
-    Stepped {
-        answer: Answer::Done(Was::Nothing),
-        state: opened(given.revision, given.serial, accepted),
-    }
+    opened(given, accepted).answering(Answer::Done(Was::Nothing))
 }

@@ -34,7 +34,10 @@ impl Gate {
     pub fn bar_payloads(self, candidate: usize, recovery: usize) -> Gate
         ensures { λ g. ⌜ g ≡ through self (longPayloads candidate recovery []) ⌝ }
     {
-        self.bar((areas::SIZE < candidate) | (areas::SIZE < recovery), Refusal::TooLong)
+        self.bar(
+            (areas::SIZE < candidate) | (areas::SIZE < recovery),
+            Refusal::TooLong,
+        )
     }
 
     // A snapshot that is too long.

@@ -1,30 +1,34 @@
--- `step_begins::opens::open` meets its contract: a return for each test of the definition. Assumes nothing.
-use mathlib.Core.Path.{ap, _∙_}
-use Rattle.choice.proofs.Picks.{yes, no}
-use Rattle.choice.proofs.Tests.{branches}
-use Rattle.areas.specs.Areas.{long}
+-- `step_begins::opens::open` meets its contract. Assumes nothing.
+use mathlib.Core.List.{[]}
+use mathlib.Core.Path.{_≡_, refl, _∙_, ap}
 use Rattle.record.specs.Answers.{answer, refuse}
 use Rattle.record.specs.declared.Answer.the-variants.{Done}
 use Rattle.record.specs.declared.Was.the-variants.{Nothing}
-use Rattle.record.specs.declared.Refusal.the-variants.{BadArea, TooLong}
-use Rattle.step_begins.specs.Opening.{openStep}
+use Rattle.wholeness.specs.Gates.{longSnapshot, gated}
+use Rattle.wholeness.specs.declared.Gate.the-variants.{Open}
+use Rattle.wholeness.proofs.Passing.{next-row, barred-out, let-in}
+use Rattle.step_begins.specs.Opening.{unopened, openBars, openStep}
 use borrow.Author.Needs.{needs}
 use Rattle.step_begins.proofs.opens.open.Statement.{statement}
 use Rattle.step_begins.proofs.opens.open.Tie as tie
 
 returns : tie.Need-returns
-unfolding openStep
-returns c = yes _ (c .before .before .if1 .taken) (c .refuse .ensures ∙ ap (refuse BadArea) (c .before .opened .ensures))
+unfolding openStep gated
+returns c =
+    let k = c .before .before .before .before .before in
+    let a = k .before .before .args in
+    barred-out Open (openBars (a .sized) (a .accepted)) (next-row (longSnapshot (a .accepted) []) (k .bar-snapshot .ensures) (k .before .bar .ensures)) unopened _ (c .before .before .before .gate .given .1)
+    (c .refuse .ensures ∙ ap (refuse _) (c .before .unopened .ensures))
 
 returns-2 : tie.Need-returns-2
-unfolding openStep long
-returns-2 c = no _ (c .before .before .before .if1 .left) (yes _ (search branches) (c .refuse2 .ensures ∙ ap (refuse TooLong) (c .before .opened2 .ensures)))
-
-returns-3 : tie.Need-returns-3
-unfolding openStep long
-returns-3 c = no _ (c .before .before .if1 .left) (no _ (search branches) (ap (answer (Done Nothing)) (c .opened3 .ensures)))
+unfolding openStep gated
+returns-2 c =
+    let k = c .before .before .before .before in
+    let a = k .before .before .args in
+    let-in Open (openBars (a .sized) (a .accepted)) (next-row (longSnapshot (a .accepted) []) (k .bar-snapshot .ensures) (k .before .bar .ensures)) unopened (c .before .before .enum-told .given .1)
+    (c .answering .ensures ∙ ap (answer (Done Nothing)) (c .before .opened .ensures))
 
 pub open-spec : {M : Type 1} → statement M
 open-spec =
     tie.close
-    (tie.spec (search needs) (search needs) returns (search needs) (search needs) returns-2 (search needs) returns-3)
+    (tie.spec (search needs) (search needs) (search needs) (search needs) (search needs) returns (search needs) (search needs) (search needs) returns-2)

@@ -1,0 +1,17 @@
+-- `step_begins::begins::begin_gate` meets its contract. Assumes nothing.
+use mathlib.Core.List.{[]}
+use Rattle.areas.specs.Areas.{long}
+use Rattle.choice.specs.Pick.{_or_}
+use Rattle.wholeness.specs.Gates.{longPayloads}
+use Rattle.wholeness.proofs.Passing.{next, next-row}
+use borrow.Author.Needs.{needs}
+use Rattle.step_begins.proofs.begins.begin_gate.Statement.{statement}
+use Rattle.step_begins.proofs.begins.begin_gate.Tie as tie
+
+returns : tie.Need-returns
+returns c =
+    let k = c .before .before in
+    next _ _ (c .bar3 .ensures) (next-row (longPayloads _ _ []) (k .bar-payloads .ensures) (next _ _ (k .before .bar2 .ensures) (next _ _ (k .before .before .before .bar .ensures) (k .before .before .before .before .admit .ensures))))
+
+pub begin-gate-spec : {M : Type 1} → statement M
+begin-gate-spec = tie.close (tie.spec (search needs) (search needs) (search needs) (search needs) (search needs) returns)
