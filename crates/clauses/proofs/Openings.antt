@@ -19,9 +19,9 @@ use Rattle.log.specs.Log.{logSized, roomOf, blank}
 use Rattle.noting.specs.Recorded.{withLog}
 use Rattle.calls.specs.Lending.{Lending, leavesOf, unopened}
 use Rattle.noting.specs.Through.{leavesThrough}
-use Rattle.demands.proofs.Wholeness.{whole-test}
-use Rattle.demands.proofs.Advancing.{idles}
-use Rattle.demands.proofs.Granting.{clash}
+use Rattle.demand_steps.proofs.Wholeness.{whole-test}
+use Rattle.demand_steps.proofs.Advancing.{idles}
+use Rattle.demand_chains.proofs.Granting.{clash}
 use Rattle.clauses.specs.Staging.{OpenClauses}
 use Rattle.clauses.specs.Lending.{Opens}
 use Rattle.clauses.specs.Recording.{OpenRecorded}

@@ -19,9 +19,9 @@ use Rattle.log.specs.Log.{sound, appended}
 use Rattle.noting.specs.Recorded.{withLog, recorded}
 use Rattle.calls.specs.Calls.{Call, stepWith}
 use Rattle.calls.specs.Kinds.{callWritten}
-use Rattle.demands.proofs.Unseen.{quiet}
-use Rattle.demands.proofs.Testing.{not-yes}
-use Rattle.demands.proofs.Granting.{clash}
+use Rattle.demand_steps.proofs.Unseen.{quiet}
+use Rattle.demand_steps.proofs.Testing.{not-yes}
+use Rattle.demand_chains.proofs.Granting.{clash}
 use Rattle.clauses.specs.Recording.{unlogged, Recorded, Through}
 use Rattle.clauses.proofs.Refusals.{refused-equal}
 

@@ -21,7 +21,7 @@ use Rattle.calls.specs.Calls.{Call, step}
 use Rattle.calls.specs.Calls.Work.{structure, update, rollback}
 use Rattle.calls.specs.Calls.Report.{structured, updated, rolledBack}
 use Rattle.calls.specs.Calls.Call.{begin, ask, report, edit, commit, recover, recoverRetained, refresh, stamp, check}
-use Rattle.demands.proofs.Own.{own, whole-step, damaged-step}
+use Rattle.demand_steps.proofs.Own.{own, whole-step, damaged-step}
 use Rattle.clauses.proofs.Splitting.{performed-fine}
 
 -- a number over 13 is no refusal

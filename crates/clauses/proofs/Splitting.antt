@@ -16,9 +16,9 @@ use Rattle.record.specs.declared.Refusal.{Refusal}
 use Rattle.record.proofs.Saying.{refused-number}
 use Rattle.wholeness.specs.Whole.{whole}
 use Rattle.calls.specs.Calls.{Call, step}
-use Rattle.demands.proofs.Own.{own, whole-step}
-use Rattle.demands.proofs.Unseen.{quiet}
-use Rattle.demands.proofs.Chain.{whole-kept}
+use Rattle.demand_steps.proofs.Own.{own, whole-step}
+use Rattle.demand_steps.proofs.Unseen.{quiet}
+use Rattle.demand_chains.proofs.Chain.{whole-kept}
 
 -- a test that does not hold
 pub nope : {P : Type 0} → false ≡ true → P

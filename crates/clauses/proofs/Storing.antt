@@ -22,8 +22,8 @@ use Rattle.step_reports.specs.Reports.{storing, reported, reportStructureOwn}
 use Rattle.calls.specs.Calls.{step}
 use Rattle.calls.specs.Calls.Report.{structured}
 use Rattle.calls.specs.Calls.Call.{report, edit}
-use Rattle.demands.proofs.Own.{own}
-use Rattle.demands.proofs.Granting.{clash}
+use Rattle.demand_steps.proofs.Own.{own}
+use Rattle.demand_chains.proofs.Granting.{clash}
 use Rattle.clauses.specs.Keeping.{Stores}
 use Rattle.clauses.proofs.Splitting.{Kept, fitting, by, on-step}
 
