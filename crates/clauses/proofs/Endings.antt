@@ -10,7 +10,8 @@ use Rattle.choice.specs.Pick.{pick, _or_}
 use Rattle.choice.proofs.Picks.{yes, no}
 use Rattle.choice.proofs.Tests.{tests, never, both, either, neither}
 use Rattle.areas.specs.Areas.{areaSize, long}
-use Rattle.record.specs.Answers.{Told, refusalNumber, refuse}
+use Rattle.record.specs.Classes.{refusalNumber}
+use Rattle.record.specs.Answers.{Told, refuse}
 use Rattle.record.specs.Fields.{top}
 use Rattle.record.specs.declared.Record.{Record}
 use Rattle.record.specs.declared.Refusal.{Refusal}

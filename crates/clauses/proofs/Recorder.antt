@@ -17,18 +17,18 @@ use Rattle.calls.specs.Calls.Work.{structure, update, rollback}
 use Rattle.calls.specs.Calls.Report.{structured, updated, rolledBack}
 use Rattle.calls.specs.Calls.Call.{begin, ask, report, commit, recover, recoverRetained, refresh}
 use Rattle.calls.specs.Lending.{Stored, Lending, leavesOf}
-use Rattle.calls.specs.Kinds.{kindOf, stepWritten, callWritten, writtenAs}
+use Rattle.record.specs.Classes.{stepWritten, callWritten}
+use Rattle.calls.specs.Kinds.{kindOf, writtenAs}
 use Rattle.noting.specs.Through.{leavesThrough}
 use Rattle.clauses.specs.Recording.{Through}
 use Rattle.clauses.proofs.Recordings.{joined}
 
 -- neither 6 nor 7 is written
 unwritten-steps : (stepWritten 6 ≡ false) × (stepWritten 7 ≡ false)
-unfolding stepWritten _and_ _or_
+unfolding _and_ _or_
 unwritten-steps = (refl, refl)
 
 unwritten-calls : (callWritten 6 ≡ false) × (callWritten 7 ≡ false)
-unfolding callWritten
 unwritten-calls = (refl, refl)
 
 module _ (r : Record) (log : List ℕ) where

@@ -8,7 +8,8 @@ use Rattle.choice.specs.Pick.{pick}
 use Rattle.choice.proofs.Picks.{yes, no}
 use Rattle.choice.proofs.Tests.{tests, never, eqb-ne}
 use Rattle.phases.specs.Phases.{none, remove}
-use Rattle.record.specs.Answers.{Told, refusalNumber, answer, refuse}
+use Rattle.record.specs.Classes.{refusalNumber}
+use Rattle.record.specs.Answers.{Told, answer, refuse}
 use Rattle.record.specs.Fields.{top, withLengths}
 use Rattle.record.specs.declared.Record.{Record}
 use Rattle.record.specs.declared.Answer.the-variants.{Done}

@@ -8,7 +8,8 @@ use Rattle.choice.specs.Pick.{pick, _and_, _or_, _implies_}
 use Rattle.phases.specs.Phases.{hasSuccessor, successor, boundary}
 use Rattle.areas.specs.Areas.{long, sized, copied}
 use Rattle.batch.specs.Batch.{tableSized, paired, pairsIn, stored}
-use Rattle.record.specs.Answers.{Told, refused}
+use Rattle.record.specs.Classes.{refused, stepWritten, callWritten}
+use Rattle.record.specs.Answers.{Told}
 use Rattle.record.specs.Live.{isLive}
 use Rattle.record.specs.Fields.{adopting}
 use Rattle.record.specs.declared.Record.{Record}
@@ -26,7 +27,7 @@ use Rattle.events.specs.Entries.{noted}
 use Rattle.noting.specs.Recorded.{withLog, recorded}
 use Rattle.noting.specs.Through.{leavesThrough}
 use Rattle.calls.specs.Calls.{Call, step}
-use Rattle.calls.specs.Kinds.{kindOf, stepWritten, callWritten, writtenAs}
+use Rattle.calls.specs.Kinds.{kindOf, writtenAs}
 use Rattle.demand_logs.specs.Logged.{Logged, loggedStep, logged, events}
 use Rattle.demand_logs.specs.Holding.{Held, Doing, afterHeld, heardHeld}
 use Rattle.demand_chains.specs.Sending.{Sent, answered, afterSent, heardSent}
@@ -46,7 +47,7 @@ grants r c = granted (hears c (called r c) .answer)
 
 -- a chain of calls as they are sent: the record that is reached, what the watcher then knows, and the numbers that are answered
 unfoldable pub reached : Record → List Sent → Record
-unfolding called kindOf stepWritten callWritten writtenAs answered afterSent
+unfolding called kindOf writtenAs answered afterSent
 reached r ss = afterSent r ss
 
 unfoldable pub known : Watch → Record → List Sent → Watch
@@ -59,7 +60,7 @@ numbers r ss = map (λ (h : Heard). h .answer .number) (heardSent r ss)
 
 -- a chain through the recorder, an opening before it, and the events of the plain one
 unfoldable pub throughLog : Record → List ℕ → List Call → Logged
-unfolding reached logSized headSound sound full appended blank sized refused withLog recorded leavesThrough noted events loggedStep logged
+unfolding reached logSized headSound sound full appended blank sized withLog recorded leavesThrough noted events loggedStep logged
 throughLog r log cs = logged r log cs
 
 -- a chain of real calls

@@ -7,6 +7,7 @@ use mathlib.Core.List.{List, [], _∷_, map}
 use Rattle.choice.specs.Pick.{pick, _and_}
 use Rattle.choice.proofs.Tests.{never, no-right}
 use Rattle.choice.proofs.Picks.{no}
+use Rattle.record.specs.Classes.{Class}
 use Rattle.record.specs.Answers.{Told, refuse}
 use Rattle.record.specs.Leaves.{leaves}
 use Rattle.record.specs.declared.Record.{Record}
@@ -115,7 +116,7 @@ two true false t u a b c = refl
 two false f t u a b c = refl
 
 -- through the log, a call answers as one that is sent so: every promise of the recorder is a `recorded`
-pub recorded-answer : (w : ℕ → Bool) (kind : ℕ) (t : Told) (r : Record) (log : List ℕ) (lent moved : List (List ℕ)) →
-    recorded w kind t r log lent moved .told ≡ pick (w (t .number) and full log) (refuse LogFull r) t
+pub recorded-answer : (w : Class → Bool) (kind : ℕ) (t : Told) (r : Record) (log : List ℕ) (lent moved : List (List ℕ)) →
+    recorded w kind t r log lent moved .told ≡ pick (w (t .class) and full log) (refuse LogFull r) t
 unfolding recorded
-recorded-answer w kind t r log lent moved = two (w (t .number)) (full log) t (refuse LogFull r) _ _ _
+recorded-answer w kind t r log lent moved = two (w (t .class)) (full log) t (refuse LogFull r) _ _ _

@@ -7,7 +7,8 @@ use mathlib.Core.List.{List, [], _∷_}
 use lib.ListN.{getD, drop}
 use Rattle.choice.specs.Pick.{pick}
 use Rattle.choice.proofs.Picks.{each}
-use Rattle.record.specs.Answers.{Told, refused, refuse}
+use Rattle.record.specs.Classes.{refused}
+use Rattle.record.specs.Answers.{Told, refuse}
 use Rattle.record.specs.Leaves.{Leaves, leaves}
 use Rattle.record.specs.declared.Record.{Record}
 use Rattle.record.specs.declared.Refusal.the-variants.{LogFull}
@@ -60,7 +61,7 @@ module _ (h : Held) (g : Given true) where
   lands (calls c) t =
       each Lands _ (row t _ (besides (t .state) (h .log))) (each Lands _ (row (refuse LogFull (h .state)) _ (both-ways h g (h .state) _ _ .0)) (row t _ (besides (t .state) _)))
     where
-      besides : (s : Record) (log : List ℕ) → Back h g s log (pick (refused (t .number)) (lent (lends h g)) (moved (h .state) (lends h g)))
+      besides : (s : Record) (log : List ℕ) → Back h g s log (pick (refused (t .class)) (lent (lends h g)) (moved (h .state) (lends h g)))
       besides s log = let b = both-ways h g (h .state) s log in each (Back h g s log) _ (b .0) (b .1)
 
   pub handed-on-logged : does h (records g) .log ∷ lent (lends (does h (records g)) g) ≡ leavesThrough (h .state) (h .log) (lends h g) .lent

@@ -9,7 +9,7 @@ use Rattle.choice.specs.Pick.{pick, _and_}
 use Rattle.choice.proofs.Picks.{no}
 use Rattle.choice.proofs.Tests.{never, both}
 use Rattle.areas.specs.Areas.{sized, copied}
-use Rattle.record.specs.Answers.{refused}
+use Rattle.record.specs.Classes.{refused}
 use Rattle.record.specs.Leaves.{Leaves, leaves}
 use Rattle.step_begins.specs.Opening.{openStep}
 use Rattle.log.specs.Log.{logSized, count, room, roomOf, sound, blank}
@@ -25,8 +25,8 @@ use Rattle.demand_logs.specs.Logged.{logged, events}
 use Rattle.demand_logs.proofs.LoggedChains.{Same, same-chain}
 
 -- "Refuses 6": what is not refused was of the right size
-opens : (fits : Bool) (v s n : ℕ) → refused (openStep fits v s n .number) ≡ false → fits ≡ true
-unfolding openStep pick refused _and_
+opens : (fits : Bool) (v s n : ℕ) → refused (openStep fits v s n .class) ≡ false → fits ≡ true
+unfolding openStep pick _and_
 opens true v s n h = refl
 opens false v s n h = never h
 
@@ -34,7 +34,7 @@ module _ (revision serial : ℕ) (log a payload : List ℕ) where
   abbrev opened : Leaves
   opened = leavesThrough unopened log (Lending.openAt revision serial a payload)
 
-  module _ (h : refused (opened .told .number) ≡ false) where
+  module _ (h : refused (opened .told .class) ≡ false) where
     fits : withLog (sized a) log .sized ≡ true
     unfolding leavesThrough kindOf writtenAs _and_ pick
     fits = opens _ revision serial (length payload) h

@@ -4,6 +4,7 @@ use mathlib.Core.Path.{_≡_, sym, _∙_, ap, subst}
 use mathlib.Core.Bool.{Bool, true}
 use mathlib.Core.List.{List, [], _∷_}
 use lib.ListN.{length}
+use Rattle.record.specs.Classes.{Class}
 use Rattle.record.specs.Answers.{Told}
 use Rattle.record.specs.Leaves.{Leaves}
 use Rattle.record.specs.Fields.{top}
@@ -21,7 +22,7 @@ use Rattle.demand_chains.proofs.Chain.{whole-kept}
 use Rattle.demand_logs.proofs.LoggedSteps.{by-kind, plain, step-sound, step-length}
 
 -- what is so of the record that was given, and of the one that the step tells, is so of the one that the call leaves
-left-record : (P : Record → Type 0) (w : ℕ → Bool) (kind : ℕ) (t : Told) (r : Record) (log : List ℕ) → P r → P (t .state) → P (recorded w kind t r log [] [] .told .state)
+left-record : (P : Record → Type 0) (w : Class → Bool) (kind : ℕ) (t : Told) (r : Record) (log : List ℕ) → P r → P (t .state) → P (recorded w kind t r log [] [] .told .state)
 unfolding recorded
 left-record P w kind t r log p q = either (λ (v : Leaves). P (v .told .state)) _ _ _ _ _ q p q
 

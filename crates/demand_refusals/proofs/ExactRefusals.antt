@@ -7,7 +7,8 @@ use mathlib.Core.List.{[], _∷_}
 use lib.Dec.{eqb}
 use Rattle.choice.specs.Pick.{pick, _and_, _or_}
 use Rattle.choice.proofs.Tests.{never}
-use Rattle.record.specs.Answers.{Said, refused}
+use Rattle.record.specs.Classes.{refused}
+use Rattle.record.specs.Answers.{Said}
 use Rattle.record.specs.declared.Record.{Record}
 use Rattle.wholeness.specs.Whole.{whole}
 use Rattle.step_stamps.specs.Stamping.{passes, checkStep}
@@ -60,7 +61,7 @@ module _ (sized sound : Bool) (r : Record) where
     listed-answer = one-listed (rows sized sound r c) (all-listed c) (fits-rows sized sound r c)
 
     -- a refusal returns the record that was given
-    pub refusal-returns : refused (stepOf sized sound r c .number) ≡ true → stepOf sized sound r c .state ≡ returned r c
+    pub refusal-returns : refused (stepOf sized sound r c .class) ≡ true → stepOf sized sound r c .state ≡ returned r c
     refusal-returns = fits-rows sized sound r c .kept
 
   -- "checking a stamp answers yes, no or 7": of a whole record yes, 1, exactly where the stamp passes, and else no, 0

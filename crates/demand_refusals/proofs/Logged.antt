@@ -6,7 +6,8 @@ use mathlib.Core.List.{List, _∷_}
 use Rattle.choice.specs.Pick.{pick, _and_, _or_}
 use Rattle.choice.proofs.Picks.{yes, no}
 use Rattle.choice.proofs.Tests.{no-right}
-use Rattle.record.specs.Answers.{Told, refused, refuse}
+use Rattle.record.specs.Classes.{refused}
+use Rattle.record.specs.Answers.{Told, refuse}
 use Rattle.record.specs.Leaves.{Leaves, leaves}
 use Rattle.record.specs.declared.Record.{Record}
 use Rattle.record.specs.declared.Refusal.the-variants.{LogFull}
@@ -33,13 +34,13 @@ module _ (t twelve : Told) (r : Record) (log after : List ℕ) (lent moved : Lis
   number-of true true = refl
   number-of true false = refl
 
-  row : {l m : List ℕ} → refused (t .number) ≡ true → l ≡ m → l ∷ besides t lent moved ≡ m ∷ lent
+  row : {l m : List ℕ} → refused (t .class) ≡ true → l ≡ m → l ∷ besides t lent moved ≡ m ∷ lent
   row {l} {m} h e = ap (λ (x : List ℕ). x ∷ besides t lent moved) e ∙ ap (λ (x : List (List ℕ)). m ∷ x) (sym (yes moved h refl))
 
-  refusal-of : (w f : Bool) → (refused (t .number) ≡ true → t .state ≡ r) → twelve .state ≡ r
-      → (refused (t .number) ≡ true → w ≡ false → log ≡ left (t .number)) → log ≡ left (twelve .number)
-      → (refused (t .number) ≡ true → w ≡ true → f ≡ false → after ≡ left (t .number))
-      → refused (ends w f .told .number) ≡ true → (ends w f .told .state ≡ r) × (ends w f .lent ≡ left (ends w f .told .number) ∷ lent)
+  refusal-of : (w f : Bool) → (refused (t .class) ≡ true → t .state ≡ r) → twelve .state ≡ r
+      → (refused (t .class) ≡ true → w ≡ false → log ≡ left (t .number)) → log ≡ left (twelve .number)
+      → (refused (t .class) ≡ true → w ≡ true → f ≡ false → after ≡ left (t .number))
+      → refused (ends w f .told .class) ≡ true → (ends w f .told .state ≡ r) × (ends w f .lent ≡ left (ends w f .told .number) ∷ lent)
   unfolding pick
   refusal-of false f s u a b c h = (s h, row h (a h refl))
   refusal-of true true s u a b c h = (u, ap (λ (x : List ℕ). x ∷ lent) b)
@@ -48,8 +49,8 @@ module _ (t twelve : Told) (r : Record) (log after : List ℕ) (lent moved : Lis
 module _ (r : Record) (log : List ℕ) where
   -- v is left by the call c, whose inner answer is t
   pub record Ends (v : Leaves) (c : AnyCall) (t : Told) (lent : List (List ℕ)) : Type 0 where
-    pub number : v .told .number ≡ pick (writtenAs (kindOfAny c) (t .number) and full log) 12 (t .number)
-    pub refusal : refused (v .told .number) ≡ true → (v .told .state ≡ returned r c) × (v .lent ≡ logAfter r log (kindOfAny c) (v .told .number) ∷ lent)
+    pub number : v .told .number ≡ pick (writtenAs (kindOfAny c) (t .class) and full log) 12 (t .number)
+    pub refusal : refused (v .told .class) ≡ true → (v .told .state ≡ returned r c) × (v .lent ≡ logAfter r log (kindOfAny c) (v .told .number) ∷ lent)
 
   -- no entry
   unwritten : (k m : ℕ) → entered k m ≡ false → log ≡ logAfter r log k m
@@ -60,7 +61,7 @@ module _ (r : Record) (log : List ℕ) where
     abbrev told : AnyCall → Told
     told c = stepOf (withLog fits log .sized) (withLog fits log .sound) r c
 
-    entry : (c : AnyCall) → returned r c ≡ r → refused (told c .number) ≡ true → writtenAs (kindOfAny c) (told c .number) ≡ true → full log ≡ false
+    entry : (c : AnyCall) → returned r c ≡ r → refused (told c .class) ≡ true → writtenAs (kindOfAny c) (told c .class) ≡ true → full log ≡ false
         → appended (kindOfAny c) (told c .number) (told c .state .serial) (told c .state .revision) log ≡ logAfter r log (kindOfAny c) (told c .number)
     unfolding logAfter appended withLog
     entry c back h w f =
@@ -83,9 +84,9 @@ module _ (r : Record) (log : List ℕ) where
         let t = told (calls c) in
         let after = appended (kindOf c) (t .number) (t .state .serial) (t .state .revision) log in
         record {
-          number = number-of t (refuse LogFull r) r log after lent moved (logAfter r log (kindOf c)) (writtenAs (kindOf c) (t .number)) (full log);
+          number = number-of t (refuse LogFull r) r log after lent moved (logAfter r log (kindOf c)) (writtenAs (kindOf c) (t .class)) (full log);
           refusal =
-              refusal-of t (refuse LogFull r) r log after lent moved (logAfter r log (kindOf c)) (writtenAs (kindOf c) (t .number)) (full log) (refusal-returns _ _ r (calls c)) refl
+              refusal-of t (refuse LogFull r) r log after lent moved (logAfter r log (kindOf c)) (writtenAs (kindOf c) (t .class)) (full log) (refusal-returns _ _ r (calls c)) refl
               (λ h w. unwritten (kindOf c) (t .number) (sym (noted r log fits (calls c) h .exactly) ∙ w)) (unwritten (kindOf c) 12 (no-right _ refl)) (entry (calls c) refl);
         }
 

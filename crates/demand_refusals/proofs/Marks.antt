@@ -6,7 +6,7 @@ use mathlib.Core.Bool.{true}
 use mathlib.Core.List.{List}
 use lib.Dec.{eqb}
 use Rattle.choice.specs.Pick.{_and_, _or_}
-use Rattle.record.specs.Answers.{refused}
+use Rattle.record.specs.Classes.{refused}
 use Rattle.status.specs.Status.{StatusCall, Marks, put, entryOf, marking, marksOf, allowed, next}
 use Rattle.status.specs.declared.Entry.{Entry}
 use Rattle.demand_refusals.specs.Rows.{given, among, distinct, count}
@@ -20,7 +20,7 @@ module _ (groups status : List ℕ) (id : ℕ) where
   leaving = record { number = λ m. m .said .number; same = λ m. m .status ≡ status }
 
   fits-rows : (c : StatusCall) → Fits leaving (marksOf groups status id c) (statusRows groups status id c)
-  unfolding statusRows entryOf marking put refused _and_
+  unfolding statusRows entryOf marking put _and_
   fits-rows c =
       over F
       (again _ _ _ _ (again _ _ _ _ (row _ (stays refl refl) (λ _.
@@ -44,5 +44,5 @@ module _ (groups status : List ℕ) (id : ℕ) where
     pub status-listed : among (marksOf groups status id c .said .number) statusNumbers ≡ true
     status-listed = one-listed (statusRows groups status id c) all-listed (fits-rows c)
 
-    pub status-refusal : refused (marksOf groups status id c .said .number) ≡ true → marksOf groups status id c .status ≡ status
+    pub status-refusal : refused (marksOf groups status id c .said .class) ≡ true → marksOf groups status id c .status ≡ status
     status-refusal = fits-rows c .kept

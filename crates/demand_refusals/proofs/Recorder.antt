@@ -10,7 +10,7 @@ use borrow.Author.Tests.{eq-eqb}
 use Rattle.choice.specs.Pick.{pick, _or_}
 use Rattle.choice.proofs.Picks.{yes}
 use Rattle.choice.proofs.Tests.{never, no-left, tests}
-use Rattle.record.specs.Answers.{refused}
+use Rattle.record.specs.Classes.{refused}
 use Rattle.record.specs.declared.Record.{Record}
 use Rattle.log.specs.Log.{full}
 use Rattle.calls.specs.Lending.{Lending, callOf, lent}
@@ -71,7 +71,7 @@ module _ (r : Record) (log : List ℕ) (c : Lending true) where
   recorder-one =
       one-passes _ (givenThrough r log c) (numbersThrough c) recorder-exact (distinct-through _ (numbersOf (callOf c)) (all-listed true true r (callOf c) .1)) recorder-listed
 
-  pub recorder-refusal : refused (leavesThrough r log c .told .number) ≡ true
+  pub recorder-refusal : refused (leavesThrough r log c .told .class) ≡ true
       → (leavesThrough r log c .told .state ≡ returned r (callOf c))
       × (leavesThrough r log c .lent ≡ logAfter r log (kind c) (leavesThrough r log c .told .number) ∷ lent c)
   recorder-refusal = ends-as r log c .refusal

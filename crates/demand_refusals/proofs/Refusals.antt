@@ -9,7 +9,8 @@ use Rattle.choice.proofs.Tests.{both}
 use Rattle.phases.specs.Phases.{hasSuccessor, successor, boundary}
 use Rattle.record.specs.Live.{isLive}
 use Rattle.record.specs.Live as Tickets
-use Rattle.record.specs.Answers.{Told, told, refused, refuse, refusalNumber}
+use Rattle.record.specs.Classes.{refused, refusalNumber}
+use Rattle.record.specs.Answers.{Told, told, refuse}
 use Rattle.record.specs.declared.Record.{Record}
 use Rattle.record.specs.declared.Outcome.{Outcome}
 use Rattle.record.specs.declared.Outcome.the-variants as O
@@ -68,7 +69,7 @@ module _ (r : Record) where
 
   outcomes : (x : Outcome) (after : Record) {done : Told} {last : Bool} → Tells done (24 when last ∷ 23 when otherwise ∷ [])
       → Tells (reported x after done) (reportRows x last)
-  unfolding reported refused _and_
+  unfolding reported _and_
   outcomes O.Waiting after f = now (goes refl refl)
   outcomes (O.Failed code) after f = later (now (goes refl refl))
   outcomes O.Done after f = later (later f)
@@ -81,20 +82,20 @@ next-phase r h = simp h
 -- Done's answer: at a boundary Finished, else More
 structure-done : (r s : Record) → hasSuccessor (s .phase .number) ≡ true
     → Tells r (structureDone s) (24 when boundary (s .phase .number + 1) ∷ 23 when otherwise ∷ [])
-unfolding structureDone refused _and_
+unfolding structureDone _and_
 structure-done r s h =
     subst (λ (p : ℕ). Tells r (structureDone s) (24 when boundary p ∷ 23 when otherwise ∷ [])) (next-phase s h)
     (row _ (goes refl refl) (λ _. now (goes refl refl)))
 
 module _ (sized sound : Bool) (r : Record) where
   begins : (structural : Bool) (c o n : ℕ) → Tells r (beginStep sized sound structural r c o n) (gateRows sized sound r (beginRows r c o n))
-  unfolding beginOwn refused _and_
+  unfolding beginOwn _and_
   begins structural c o n =
       gated-call r sized sound
       (row _ (stays refl refl) (λ _. row _ (stays refl refl) (λ _. row _ (stays refl refl) (λ _. row _ (stays refl refl) (λ _. now (goes refl refl))))))
 
   pub fits-rows : (c : AnyCall) → Fits (telling (returned r c)) (stepOf sized sound r c) (rows sized sound r c)
-  unfolding returned rows refused _and_ openStep askStructureOwn askUpdateOwn askRollbackOwn reportStructureOwn updateDone rollbackDone editOwn commitOwn unrestored recoverOwn recoverRetainedOwn refreshOwn stampStep checkStep
+  unfolding returned rows _and_ openStep askStructureOwn askUpdateOwn askRollbackOwn reportStructureOwn updateDone rollbackDone editOwn commitOwn unrestored recoverOwn recoverRetainedOwn refreshOwn stampStep checkStep
   fits-rows (opens v s n) = row _ (stays refl refl) (λ _. row _ (stays refl refl) (λ _. now (goes refl refl)))
   fits-rows (calls (begin false c o n)) = begins false c o n
   fits-rows (calls (begin true c o n)) = begins true c o n

@@ -5,7 +5,7 @@ use mathlib.Core.Path.{_≡_, refl, sym}
 use mathlib.Core.Bool.{true, false}
 use lib.Dec.{eqb}
 use Rattle.choice.proofs.Picks.{yes}
-use Rattle.record.specs.Answers.{refused}
+use Rattle.record.specs.Classes.{refused}
 use Rattle.record.specs.declared.Record.{Record}
 use Rattle.calls.specs.Lending.{Lending, callOf, lent, fits, moved, leavesOf}
 use Rattle.demand_refusals.specs.Rows.{given, among}
@@ -19,5 +19,5 @@ module _ (r : Record) (c : Lending false) where
   pub transaction-listed : among (leavesOf r c .told .number) (numbersOf (callOf c)) ≡ true
   transaction-listed = listed-answer (fits c) true r (callOf c)
 
-  pub transaction-refusal : refused (leavesOf r c .told .number) ≡ true → (leavesOf r c .told .state ≡ returned r (callOf c)) × (leavesOf r c .lent ≡ lent c)
+  pub transaction-refusal : refused (leavesOf r c .told .class) ≡ true → (leavesOf r c .told .state ≡ returned r (callOf c)) × (leavesOf r c .lent ≡ lent c)
   transaction-refusal h = (refusal-returns (fits c) true r (callOf c) h, sym (yes (moved r c) h refl))

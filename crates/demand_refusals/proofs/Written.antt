@@ -7,7 +7,7 @@ use lib.Dec.{eqb, leb}
 use borrow.Author.Tests.{not-false, lt-leb, eq-eqb, ne-eqb}
 use Rattle.choice.specs.Pick.{pick, _and_, _or_}
 use Rattle.choice.proofs.Tests.{never, both, either, no-left, tests}
-use Rattle.record.specs.Answers.{refused}
+use Rattle.record.specs.Classes.{refused, stepWritten, callWritten}
 use Rattle.record.specs.declared.Record.{Record}
 use Rattle.log.specs.Log.{sound}
 use Rattle.calls.specs.Calls.{AnyCall, stepOf}
@@ -15,7 +15,7 @@ use Rattle.calls.specs.Calls.Work.{structure, update, rollback}
 use Rattle.calls.specs.Calls.Report.{structured, updated, rolledBack}
 use Rattle.calls.specs.Calls.Call.{begin, ask, report, edit, commit, recover, recoverRetained, refresh, stamp, check}
 use Rattle.calls.specs.Calls.AnyCall.{opens, calls}
-use Rattle.calls.specs.Kinds.{kindOf, kindOfAny, stepWritten, callWritten, writtenAs}
+use Rattle.calls.specs.Kinds.{kindOf, kindOfAny, writtenAs}
 use Rattle.noting.specs.Recorded.{withLog}
 use Rattle.demand_refusals.specs.Rows.{Row, _when_, given, among}
 use Rattle.demand_refusals.specs.Refusals.{gateRows, rows, numbersOf}
@@ -24,7 +24,6 @@ use Rattle.demand_refusals.proofs.OneRow.{unlisted}
 use Rattle.demand_refusals.proofs.ExactRefusals.{exact-refusals, listed-answer}
 
 refused-call : (n : ℕ) → refused n ≡ true → callWritten n ≡ false
-unfolding refused callWritten
 refused-call n h = let p = both h in ne-eqb n 0 (λ e. omega tests)
 
 or-false : (b : Bool) → b or false ≡ b
@@ -34,7 +33,6 @@ or-false false = refl
 
 -- of what asks and reports are refused, 4 and 5 are written
 refused-step : (n : ℕ) → refused n ≡ true → stepWritten n ≡ eqb n 4 or eqb n 5
-unfolding stepWritten refused
 refused-step n h = let p = both h in ap (λ (b : Bool). eqb n 4 or eqb n 5 or b) (no-left (leb n 24) (lt-leb 20 n (omega tests))) ∙ or-false _
 
 -- nor is what it is refused written, where it answers neither 4 nor 5

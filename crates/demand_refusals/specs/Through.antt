@@ -19,7 +19,7 @@ asks k = eqb k 3 or eqb k 5 or eqb k 7
 -- "12 last": LogFull, "no room for an event to be written", and else the inner answer by its row
 unfoldable pub givenThrough : Record → List ℕ → Lending true → ℕ → Bool
 givenThrough r log c n =
-    pick (writtenAs (kind c) (inner r log c .number) and full log) (eqb 12 n)
+    pick (writtenAs (kind c) (inner r log c .class) and full log) (eqb 12 n)
     (given (rows (withLog (fits c) log .sized) (withLog (fits c) log .sound) r (callOf c)) n)
 
 -- 12 besides, where the call has a kind

@@ -9,7 +9,8 @@ use Rattle.choice.specs.Pick.{pick, _and_, _or_}
 use Rattle.choice.proofs.Tests.{either, neither, test, eqb-ne, tests}
 use Rattle.phases.specs.Phases.{none, remove}
 use Rattle.areas.specs.Areas.{long, areaSize}
-use Rattle.record.specs.Answers.{Told, refused}
+use Rattle.record.specs.Classes.{refused}
+use Rattle.record.specs.Answers.{Told}
 use Rattle.record.specs.Fields.{spent}
 use Rattle.record.specs.Live.{isLive}
 use Rattle.record.specs.Live as Tickets
@@ -102,7 +103,7 @@ updates-of : (p : ℕ) → eqb p 0 or eqb p 5 ≡ true → Updates p
 updates-of p e = either e (λ h. Updates.flat (eqb-true _ _ h)) (λ h. Updates.batch (eqb-true _ _ h))
 
 classify : (r : Record) (c : Call) → Leaf r c (own r c)
-unfolding own beginOwn editOwn askStructureOwn askUpdateOwn askRollbackOwn reportStructureOwn commitOwn recoverOwn recoverRetainedOwn refreshOwn structureDone updateDone rollbackDone sees refused _and_
+unfolding own beginOwn editOwn askStructureOwn askUpdateOwn askRollbackOwn reportStructureOwn commitOwn recoverOwn recoverRetainedOwn refreshOwn structureDone updateDone rollbackDone sees _and_
 classify r (begin false c o n) =
     split _ (λ e. refuses refl) (λ e₁. split _ (λ e. refuses refl) (λ e₂. split _ (λ e. refuses refl) (λ e₃. split _ (λ e. refuses refl) (λ e₄.
     let s = neither e₃ in

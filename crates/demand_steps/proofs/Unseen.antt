@@ -7,7 +7,8 @@ use lib.Dec.{eqb}
 use borrow.Author.Tests.{ne-eqb}
 use Rattle.choice.specs.Pick.{pick, _or_}
 use Rattle.choice.proofs.Tests.{both, tests}
-use Rattle.record.specs.Answers.{Told, said, refused}
+use Rattle.record.specs.Classes.{refused}
+use Rattle.record.specs.Answers.{Told, said}
 use Rattle.record.specs.declared.Record.{Record}
 use Rattle.record.specs.declared.Outcome.{Outcome}
 use Rattle.record.specs.declared.Outcome.the-variants as O
@@ -31,7 +32,6 @@ pub record Quiet (n : ℕ) : Type 0 where
   pub finished : eqb n 24 ≡ false
 
 pub quiet : (n : ℕ) → refused n ≡ true → Quiet n
-unfolding refused
 quiet n h =
     let x = both h in
     record {
