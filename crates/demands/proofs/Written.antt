@@ -10,6 +10,7 @@ use Rattle.choice.proofs.Tests.{never, both, either, no-left, tests}
 use Rattle.record.specs.Answers.{refused}
 use Rattle.record.specs.declared.Record.{Record}
 use Rattle.log.specs.Log.{sound}
+use Rattle.log.specs.Kinds.{asks}
 use Rattle.calls.specs.Calls.{AnyCall, stepOf}
 use Rattle.calls.specs.Calls.Work.{structure, update, rollback}
 use Rattle.calls.specs.Calls.Report.{structured, updated, rolledBack}
@@ -19,7 +20,7 @@ use Rattle.calls.specs.Kinds.{kindOf, kindOfAny, stepWritten, callWritten, writ
 use Rattle.noting.specs.Recorded.{withLog}
 use Rattle.demands.specs.Rows.{Row, _when_, given, among}
 use Rattle.demands.specs.Refusals.{gateRows, rows, numbersOf}
-use Rattle.demands.specs.Through.{asks, entered}
+use Rattle.demands.specs.Through.{entered}
 use Rattle.demands.proofs.OneRow.{unlisted}
 use Rattle.demands.proofs.ExactRefusals.{exact-refusals, listed-answer}
 

@@ -8,6 +8,7 @@ use lib.ListN.{length}
 use Rattle.choice.specs.Pick.{pick, _and_, _or_}
 use Rattle.areas.specs.Areas.{long}
 use Rattle.record.specs.declared.Record.{Record}
+use Rattle.log.specs.Kinds as kinds
 use Rattle.calls.specs.Calls.{step}
 use Rattle.calls.specs.Calls.Call.{commit, recover, recoverRetained}
 use Rattle.calls.specs.Kinds.{kindOf}
@@ -15,9 +16,9 @@ use Rattle.demands.specs.Chains.{Heard}
 use Rattle.demands.specs.Watching.{Watch, performed}
 use Rattle.demands.specs.Plans.{plannedBack}
 
--- a recovery that is performed; "Kinds: .. 10 recover, 11 recover retained"
+-- a recovery that is performed
 abbrev pub recovers : Heard → Bool
-recovers h = (eqb (kindOf (h .call)) 10 or eqb (kindOf (h .call)) 11) and performed (h .answer)
+recovers h = (eqb (kindOf (h .call)) kinds.recover or eqb (kindOf (h .call)) kinds.recoverRetained) and performed (h .answer)
 
 unfoldable pub recoveredIn : List Heard → Bool
 recoveredIn [] = false
