@@ -12,7 +12,7 @@ use Rattle.record.specs.Leaves.{Leaves, leaves}
 use Rattle.record.specs.declared.Record.{Record}
 use Rattle.record.specs.declared.Refusal.the-variants.{BadArea, Damaged, LogFull}
 use Rattle.wholeness.specs.Whole.{whole}
-use Rattle.log.specs.Log.{count, full, sound, event}
+use Rattle.log.specs.Log.{count, headWords, full, sound, event}
 use Rattle.noting.specs.Recorded.{withLog}
 use Rattle.events.specs.Entries.{logOf}
 use Rattle.clauses.specs.Lending.{payload}
@@ -51,4 +51,4 @@ pub record OpenRecorded (revision : ℕ) (given : List ℕ) (v : Leaves) : Type 
   pub c274 : v .told .state .staged ≡ false
   -- no events (also C282): the count is 0, and so is every event word
   pub c275 : count (logOf v) ≡ 0
-  pub c275-words : (i : ℕ) → getD (drop 4 (logOf v)) i 0 ≡ 0
+  pub c275-words : (i : ℕ) → getD (drop headWords (logOf v)) i 0 ≡ 0

@@ -1,7 +1,7 @@
 -- A recorded chain with room to the last word, and the same chain with room for one event less, to which the theorems on chains through
 -- the recorder are applied: no hypothesis of theirs is met by nothing. In it an ask answered 4 is written, and a begin answered 1 and a
 -- commit answered 4 are not. Assumes nothing.
-use Prim.Native.Nat.{ℕ, _+_, _*_}
+use Prim.Native.Nat.{ℕ}
 use mathlib.Core.Path.{_≡_, refl}
 use mathlib.Core.Bool.{true, false}
 use mathlib.Core.List.{List, [], _∷_, _++_, map}
@@ -11,7 +11,7 @@ use Rattle.record.specs.Answers.{Said, said}
 use Rattle.record.specs.Leaves.{Leaves}
 use Rattle.record.specs.declared.Outcome.the-variants.{Done}
 use Rattle.wholeness.specs.Whole.{whole}
-use Rattle.log.specs.Log.{sound, blank}
+use Rattle.log.specs.Log.{logWidth, wordsOf, sound, blank}
 use Rattle.events.specs.Entries.{entry, entries, logOf}
 use Rattle.noting.specs.Through.{leavesThrough}
 use Rattle.calls.specs.Calls.{Call}
@@ -35,7 +35,7 @@ chain = before ++ commit ∷ []
 
 -- an opened log with room for so many events
 abbrev pub roomFor : ℕ → List ℕ
-roomFor n = blank (replicate (4 + 4 * n) 7)
+roomFor n = blank (replicate (wordsOf logWidth n) 7)
 
 abbrev answers : List Heard → List Said
 answers hs = map (λ (h : Heard). h .answer) hs

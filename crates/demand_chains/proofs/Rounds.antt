@@ -6,7 +6,7 @@ use mathlib.Core.List.{List, [], _∷_}
 use mathlib.Core.Logic.{_≢_}
 use native.Mathlib.Omega.{arith}
 use borrow.Author.Tests.{eqb-true}
-use Rattle.choice.specs.Pick.{pick, _and_}
+use Rattle.choice.specs.Pick.{pick, _or_}
 use Rattle.choice.proofs.Tests.{either, join}
 use Rattle.phases.specs.Phases.{successor}
 use Rattle.record.specs.Answers.{Told}
@@ -51,13 +51,13 @@ reports forRollback (undoMore l s) = refl
 
 -- asks and reports are work
 asks-work : {r : Record} {c : Call} → Due r c → stepKind (kindOf c) ≡ true
-unfolding kindOf _and_
+unfolding kindOf _or_
 asks-work (Due.settle y) = refl
 asks-work (Due.apply u v) = refl
 asks-work (Due.undo v n) = refl
 
 reports-work : {t : ℕ} {c d : Call} → DoneReport t c d → stepKind (kindOf d) ≡ true
-unfolding kindOf _and_
+unfolding kindOf _or_
 reports-work (forStructure p q) = refl
 reports-work forUpdate = refl
 reports-work forRollback = refl

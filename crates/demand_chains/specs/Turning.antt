@@ -8,15 +8,16 @@ use lib.ListN.{length}
 use Rattle.choice.specs.Pick.{pick, _and_, _or_}
 use Rattle.areas.specs.Areas.{long}
 use Rattle.record.specs.declared.Record.{Record}
+use Rattle.log.specs.Kinds as kinds
 use Rattle.calls.specs.Calls.{step}
 use Rattle.calls.specs.Calls.Call.{commit, recover, recoverRetained}
 use Rattle.calls.specs.Kinds.{kindOf}
 use Rattle.demand_steps.specs.Watching.{Heard, Watch, performed}
 use Rattle.demand_chains.specs.Plans.{plannedBack}
 
--- a recovery that is performed; "Kinds: .. 10 recover, 11 recover retained"
+-- a recovery that is performed
 abbrev pub recovers : Heard → Bool
-recovers h = (eqb (kindOf (h .call)) 10 or eqb (kindOf (h .call)) 11) and performed (h .answer)
+recovers h = (eqb (kindOf (h .call)) kinds.recover or eqb (kindOf (h .call)) kinds.recoverRetained) and performed (h .answer)
 
 unfoldable pub recoveredIn : List Heard → Bool
 recoveredIn [] = false

@@ -10,6 +10,7 @@ use Rattle.choice.proofs.Tests.{never, both, either, no-left, tests}
 use Rattle.record.specs.Classes.{refused, stepWritten, callWritten}
 use Rattle.record.specs.declared.Record.{Record}
 use Rattle.log.specs.Log.{sound}
+use Rattle.log.specs.Kinds.{asks}
 use Rattle.calls.specs.Calls.{AnyCall, stepOf}
 use Rattle.calls.specs.Calls.Work.{structure, update, rollback}
 use Rattle.calls.specs.Calls.Report.{structured, updated, rolledBack}
@@ -19,7 +20,7 @@ use Rattle.calls.specs.Kinds.{kindOf, kindOfAny, writtenAs}
 use Rattle.noting.specs.Recorded.{withLog}
 use Rattle.demand_refusals.specs.Rows.{Row, _when_, given, among}
 use Rattle.demand_refusals.specs.Refusals.{gateRows, rows, numbersOf}
-use Rattle.demand_refusals.specs.Through.{asks, entered}
+use Rattle.demand_refusals.specs.Through.{entered}
 use Rattle.demand_refusals.proofs.OneRow.{unlisted}
 use Rattle.demand_refusals.proofs.ExactRefusals.{exact-refusals, listed-answer}
 

@@ -6,15 +6,13 @@ use lib.Dec.{eqb, ltb}
 use Rattle.choice.specs.Pick.{pick, _and_, _or_}
 use Rattle.record.specs.declared.Record.{Record}
 use Rattle.log.specs.Log.{full, event}
+use Rattle.log.specs.Kinds.{asks}
 use Rattle.calls.specs.Lending.{Lending, callOf, fits}
 use Rattle.calls.specs.Kinds.{kind, writtenAs}
 use Rattle.noting.specs.Recorded.{withLog}
 use Rattle.noting.specs.Through.{inner}
 use Rattle.demand_refusals.specs.Rows.{given}
 use Rattle.demand_refusals.specs.Refusals.{rows, numbersOf}
-
-abbrev pub asks : ℕ → Bool
-asks k = eqb k 3 or eqb k 5 or eqb k 7
 
 -- "12 last": LogFull, "no room for an event to be written", and else the inner answer by its row
 unfoldable pub givenThrough : Record → List ℕ → Lending true → ℕ → Bool
