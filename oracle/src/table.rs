@@ -2,56 +2,76 @@
 //!
 //! Written from document 01 alone.
 
+use crate::answer::{Answer, Answered};
+use crate::model::{phase, About, Name, CALLS};
 use crate::script::Made;
-use std::collections::BTreeMap;
+use std::collections::{BTreeMap, BTreeSet};
+use std::fmt;
 
-/// Each call with the answers document 01 allows it. Checking a stamp answers
-/// yes or no, which are counted in columns of their own.
-const ALLOWED: [(&str, &[&str]); 19] = [
-    ("open", &["0", "6", "8"]),
-    ("begin", &["0", "1", "3", "6", "7", "8", "9", "12"]),
-    ("begin-structural", &["0", "1", "3", "6", "7", "8", "9", "12"]),
-    ("ask-structure", &["4", "6", "7", "11", "12", "20", "24"]),
-    ("report-structure", &["6", "7", "8", "10", "12", "21", "22", "23", "24"]),
-    ("ask-update", &["5", "6", "7", "11", "12", "20", "24"]),
-    ("report-update", &["6", "7", "10", "12", "21", "22", "23", "24"]),
-    ("ask-rollback", &["6", "7", "11", "12", "20", "24"]),
-    ("report-rollback", &["6", "7", "10", "12", "21", "22", "23", "24"]),
-    ("edit", &["0", "2", "6", "7", "8"]),
-    ("commit", &["0", "2", "4", "6", "7", "12"]),
-    ("recover", &["0", "2", "4", "6", "7", "8", "12"]),
-    ("recover-retained", &["0", "2", "4", "6", "7", "12"]),
-    ("refresh", &["0", "1", "6", "7", "8", "12"]),
-    ("stamp", &["0", "1", "7"]),
-    ("check", &["7", "yes", "no"]),
-    ("link", &["0", "6", "7", "13"]),
-    ("initialize", &["0", "6", "7", "13"]),
-    ("cancel", &["0", "6", "7", "13"]),
-];
+/// A column of the table. Checking a stamp answers yes or no, which are
+/// counted in columns of their own.
+#[derive(Clone, Copy, PartialEq, Eq, PartialOrd, Ord)]
+enum Column {
+    Done,
+    Yes,
+    No,
+    Other(u64),
+}
 
-const COLUMNS: [&str; 21] = [
-    "0", "yes", "no", "1", "2", "3", "4", "5", "6", "7", "8", "9", "10", "11", "12", "13", "20",
-    "21", "22", "23", "24",
-];
+impl fmt::Display for Column {
+    fn fmt(&self, to: &mut fmt::Formatter) -> fmt::Result {
+        match self {
+            Column::Done => to.pad(&Answer::Done.number().to_string()),
+            Column::Yes => to.pad("yes"),
+            Column::No => to.pad("no"),
+            Column::Other(number) => to.pad(&number.to_string()),
+        }
+    }
+}
+
+fn column_of(answer: Answer) -> Column {
+    match answer {
+        Answer::Done => Column::Done,
+        other => Column::Other(other.number()),
+    }
+}
+
+/// The column in which an answer is counted.
+fn counted(name: Name, answered: &Answered) -> Column {
+    match (name, answered.answer) {
+        (Name::Check, Answer::Done) if answered.values == [1] => Column::Yes,
+        (Name::Check, Answer::Done) => Column::No,
+        (_, answer) => column_of(answer),
+    }
+}
+
+/// The columns that document 01 allows a call.
+fn allowed(about: &About) -> BTreeSet<Column> {
+    let mut columns: BTreeSet<Column> = about.answers().into_iter().map(column_of).collect();
+    if about.name == Name::Check {
+        columns.remove(&Column::Done);
+        columns.extend([Column::Yes, Column::No]);
+    }
+    columns
+}
+
+fn columns() -> BTreeSet<Column> {
+    CALLS.iter().flat_map(allowed).collect()
+}
 
 /// Calls by answers, and calls on a whole record by its phase.
 pub struct Tally {
-    cells: BTreeMap<(&'static str, String), u64>,
-    phases: [u64; 14],
+    cells: BTreeMap<(Name, Column), u64>,
+    phases: [u64; phase::COUNT as usize],
 }
 
 impl Tally {
     pub fn new() -> Tally {
-        Tally { cells: BTreeMap::new(), phases: [0; 14] }
+        Tally { cells: BTreeMap::new(), phases: [0; phase::COUNT as usize] }
     }
 
     pub fn count(&mut self, made: &Made) {
-        let column = match (made.name, made.answer.number) {
-            ("check", 0) if made.answer.values == [1] => "yes".to_string(),
-            ("check", 0) => "no".to_string(),
-            (_, number) => number.to_string(),
-        };
-        *self.cells.entry((made.name, column)).or_insert(0) += 1;
+        *self.cells.entry((made.name, counted(made.name, &made.answered))).or_insert(0) += 1;
         if let Some(phase) = made.phase {
             self.phases[phase as usize] += 1;
         }
@@ -61,18 +81,19 @@ impl Tally {
         self.cells.values().sum()
     }
 
-    fn at(&self, name: &'static str, column: &str) -> u64 {
-        self.cells.get(&(name, column.to_string())).copied().unwrap_or(0)
+    fn at(&self, name: Name, column: Column) -> u64 {
+        self.cells.get(&(name, column)).copied().unwrap_or(0)
     }
 
     /// The allowed cells that are empty, and the filled ones not allowed.
     pub fn faults(&self) -> (Vec<String>, Vec<String>) {
         let (mut empty, mut strange) = (Vec::new(), Vec::new());
-        for (name, allowed) in ALLOWED.iter() {
-            for column in COLUMNS.iter() {
-                let filled = self.at(name, column) > 0;
-                let cell = format!("{} {}", name, column);
-                match (allowed.contains(column), filled) {
+        for about in &CALLS {
+            let allowed = allowed(about);
+            for column in columns() {
+                let filled = self.at(about.name, column) > 0;
+                let cell = format!("{} {}", about.word, column);
+                match (allowed.contains(&column), filled) {
                     (true, false) => empty.push(cell),
                     (false, true) => strange.push(cell),
                     _ => {}
@@ -82,28 +103,32 @@ impl Tally {
         (empty, strange)
     }
 
+    fn row(&self, about: &About) -> String {
+        let allowed = allowed(about);
+        let cell = |column| match self.at(about.name, column) {
+            0 if !allowed.contains(&column) => format!("{:>7}", "-"),
+            count => format!("{:>7}", count),
+        };
+        let cells: Vec<String> = columns().into_iter().map(cell).collect();
+        format!("{:<17}{}\n", about.word, cells.concat())
+    }
+
     pub fn text(&self) -> String {
-        let mut text = format!("{:<17}", "call");
-        for column in COLUMNS.iter() {
-            text.push_str(&format!("{:>7}", column));
-        }
-        text.push('\n');
-        for (name, allowed) in ALLOWED.iter() {
-            text.push_str(&format!("{:<17}", name));
-            for column in COLUMNS.iter() {
-                let count = self.at(name, column);
-                let dash = count == 0 && !allowed.contains(column);
-                let cell = if dash { "-".to_string() } else { count.to_string() };
-                text.push_str(&format!("{:>7}", cell));
-            }
-            text.push('\n');
-        }
+        let heads: Vec<String> = columns().iter().map(|column| format!("{:>7}", column)).collect();
+        let rows: Vec<String> = CALLS.iter().map(|about| self.row(about)).collect();
         let phases: Vec<String> = self.phases.iter().map(|count| count.to_string()).collect();
-        text.push_str(&format!("calls in phases 0 to 13: {}\n", phases.join(", ")));
         let (empty, strange) = self.faults();
-        text.push_str(&format!("allowed and empty: {}\n", listed(&empty)));
-        text.push_str(&format!("filled and not allowed: {}\n", listed(&strange)));
-        text
+        format!(
+            "{:<17}{}\n{}calls in phases 0 to {}: {}\nallowed and empty: {}\n\
+             filled and not allowed: {}\n",
+            "call",
+            heads.concat(),
+            rows.concat(),
+            phase::RECOVERED,
+            phases.join(", "),
+            listed(&empty),
+            listed(&strange)
+        )
     }
 }
 
