@@ -11,7 +11,7 @@ mod sides;
 
 use crate::boundary;
 use crate::make;
-use crate::table::Tally;
+use crate::tally::Tally;
 use sides::{ours, theirs, Ours};
 use std::io::{self, Write};
 

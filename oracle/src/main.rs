@@ -17,7 +17,7 @@ mod place;
 mod script;
 mod sizes;
 mod status;
-mod table;
+mod tally;
 #[cfg(test)]
 mod tests;
 mod text;
@@ -51,7 +51,7 @@ fn make(seed: u64, calls: u64, output: &mut dyn Write) -> io::Result<()> {
 }
 
 fn table(seed: u64, calls: u64, output: &mut dyn Write) -> io::Result<()> {
-    let mut tally = table::Tally::new();
+    let mut tally = tally::Tally::new();
     make::make(seed, calls, &mut io::sink(), &mut |made| tally.count(made))?;
     write!(output, "{}", tally.text())
 }

@@ -5,6 +5,7 @@
 //! nothing itself. Sizes (6), wholeness (7) and the log (12) are dealt with by
 //! the driver, which asks for a step only where none of 6 and 7 is given.
 
+mod about;
 mod asks;
 mod begins;
 mod call;
@@ -16,13 +17,12 @@ mod record;
 mod refusals;
 mod reports;
 pub mod row;
-mod table;
 
+pub use about::{About, Name, CALLS};
 pub use call::{Call, Mark, Payloads};
 pub use opening::{Opening, Stamp};
 pub use outcome::Outcome;
 pub use record::{Record, Ticket, Work};
-pub use table::{About, Name, CALLS};
 
 use crate::answer::{Answer, Answered, Refusal};
 use crate::place::Place;

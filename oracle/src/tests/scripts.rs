@@ -7,7 +7,7 @@ use super::{holds, open, play, play_bytes};
 use crate::place::Place;
 use crate::sizes::{AREA, HELD_AREA, LENT_IDS, LINE_MOST, LOG_LEAST};
 use crate::status::{READY, STATUS_BITS};
-use crate::{boundary, command, driver, line, log, make, script, table};
+use crate::{boundary, command, driver, line, log, make, script, tally};
 
 #[test]
 fn the_log_of_the_example() {
@@ -120,7 +120,7 @@ fn lines_across_small_buffers() {
 
 #[test]
 fn made_scripts_fill_every_cell() {
-    let mut tally = table::Tally::new();
+    let mut tally = tally::Tally::new();
     let mut made = Vec::new();
     make::make(1, 20_000, &mut made, &mut |made| tally.count(made)).unwrap();
     let (empty, strange) = tally.faults();

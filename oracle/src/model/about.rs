@@ -5,6 +5,9 @@
 
 use crate::answer::{Answer, Refusal};
 use crate::place::Place;
+use Family::{Act, Ask, Report};
+use Place::{Accepted, Candidate, Exchange, Groups, Recovery, Status, Table};
+use Refusal::*;
 
 /// The calls, in the order of the table.
 #[derive(Clone, Copy, Debug, PartialEq, Eq, PartialOrd, Ord)]
@@ -41,6 +44,7 @@ pub enum Family {
     Report,
 }
 
+/// A row of the table.
 pub struct About {
     pub name: Name,
     pub word: &'static str,
@@ -93,10 +97,7 @@ const fn row(
     About { name, word, kind, lent, refusals, family }
 }
 
-use Family::{Act, Ask, Report};
-use Place::{Accepted, Candidate, Exchange, Groups, Recovery, Status, Table};
-use Refusal::*;
-
+/// What several rows share.
 const BEGIN: &[Place] = &[Candidate, Recovery, Table];
 const BEGINNING: &[Refusal] = &[Pending, Capacity, TooLong, TooMany];
 const BOTH: &[Place] = &[Candidate, Recovery];
@@ -104,7 +105,8 @@ const ENDED: &[Place] = &[Accepted, Exchange];
 const RETAINED: &[Place] = &[Accepted, Recovery, Exchange];
 const IDS: &[Place] = &[Groups, Status];
 
-pub const CALLS: [About; 19] = [
+/// The table of calls.
+pub static CALLS: [About; 19] = [
     row(Name::Open, "open", None, &[Accepted], &[TooLong], Act),
     row(Name::Begin, "begin", Some(1), BEGIN, BEGINNING, Act),
     row(Name::BeginStructural, "begin-structural", Some(2), BEGIN, BEGINNING, Act),
