@@ -1,18 +1,18 @@
 -- `step_reports::rollback::least` meets its contract. Assumes nothing.
 use mathlib.Core.Path.{refl}
 use Rattle.choice.proofs.Picks.{yes, no}
-use Rattle.choice.proofs.Tests.{branches}
+use borrow.Author.Tests.{lt-ltb, le-ltb}
 use Rattle.step_reports.specs.Done.{least}
 use Rattle.step_reports.proofs.rollback.least.Statement.{statement}
 use Rattle.step_reports.proofs.rollback.least.Tie as tie
 
 returns : tie.Need-returns
 unfolding least
-returns c = yes _ (search branches) refl
+returns c = yes _ (lt-ltb _ _ (c .if1 .taken)) refl
 
 returns-2 : tie.Need-returns-2
 unfolding least
-returns-2 c = no _ (search branches) refl
+returns-2 c = no _ (le-ltb _ _ (c .if1 .left)) refl
 
 pub least-spec : {M : Type 1} → statement M
 least-spec = tie.close (tie.spec returns returns-2)

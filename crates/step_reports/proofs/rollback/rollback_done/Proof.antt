@@ -2,7 +2,7 @@
 use Prim.Native.Nat.{ℕ, _-_}
 use mathlib.Core.Path.{ap, _∙_}
 use Rattle.choice.proofs.Picks.{yes, no}
-use Rattle.choice.proofs.Tests.{branches}
+use borrow.Author.Tests.{eq-eqb, ne-eqb}
 use Rattle.record.specs.Fields.{withBatch}
 use Rattle.record.specs.Answers.{answer}
 use Rattle.record.specs.declared.Record.{Record}
@@ -21,14 +21,14 @@ unfolding rollbackDone
 returns c =
     let k = c .before .before .before in
     let r = k .before .before .before .args .r in
-    yes _ (search branches) (c .answering .ensures ∙ ap (answer Finished) (c .before .leaving .ensures ∙ ap (λ (a : ℕ). leaving (off r a)) (k .least .ensures)))
+    yes _ (eq-eqb _ _ (c .before .before .if1 .taken)) (c .answering .ensures ∙ ap (answer Finished) (c .before .leaving .ensures ∙ ap (λ (a : ℕ). leaving (off r a)) (k .least .ensures)))
 
 returns-2 : tie.Need-returns-2
 unfolding rollbackDone
 returns-2 c =
     let k = c .before .before in
     let r = k .before .before .before .args .r in
-    no _ (search branches) (c .answering2 .ensures ∙ ap (λ (a : ℕ). answer More (off r a)) (k .least .ensures))
+    no _ (ne-eqb _ _ (c .before .if1 .left)) (c .answering2 .ensures ∙ ap (λ (a : ℕ). answer More (off r a)) (k .least .ensures))
 
 pub rollback-done-spec : {M : Type 1} → statement M
 rollback-done-spec = tie.close (tie.spec (search needs) (search needs) (search needs) (search needs) (search needs) returns (search needs) returns-2)
