@@ -1,5 +1,5 @@
 -- `step_reports::reported` meets its contract: a case for each outcome. Assumes nothing.
-use mathlib.Core.Path.{_∙_, ap, sym, refl}
+use mathlib.Core.Path.{_∙_, ap, sym}
 use Rattle.record.specs.Answers.{Told, tells}
 use Rattle.record.specs.Given.{effectOf}
 use Rattle.record.specs.declared.Outcome.{Outcome}
