@@ -27,7 +27,10 @@ unfolding commitOwn
 returns-2 c =
     let k = c .before .before .before .before in
     let r = k .before .before .before .args .r in
-    let-in _ (commitBars r) (k .before .before .commit-gate .ensures) r (k .enum-told .given .1) (rw (c .before .idle-at .ensures) at (c .answering .ensures))
+    let-in _ (commitBars r) (k .before .before .commit-gate .ensures) r (k .enum-told .given .1)
+    (rw (c .before .idle-at .ensures) at (c .answering .ensures))
 
 pub commit-spec : {M : Type 1} → statement M
-commit-spec = tie.close (tie.spec (search needs) (search needs) (search needs) returns (search needs) (search needs) add-idle-at (search needs) (search needs) returns-2)
+commit-spec =
+    tie.close
+    (tie.spec (search needs) (search needs) (search needs) returns (search needs) (search needs) add-idle-at (search needs) (search needs) returns-2)

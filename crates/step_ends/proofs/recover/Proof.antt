@@ -12,7 +12,8 @@ unfolding recoverOwn
 returns c =
     let k = c .before .before in
     let row = longSnapshot (k .before .args .length) [] in
-    handed _ (recoverBars (k .before .args .r) row) (next-row row (c .before .bar-snapshot .ensures) (k .recover-gate .ensures)) _ _ (c .recovered .ensures)
+    handed _ (recoverBars (k .before .args .r) row) (next-row row (c .before .bar-snapshot .ensures) (k .recover-gate .ensures)) _ _
+    (c .recovered .ensures)
 
 pub recover-spec : {M : Type 1} → statement M
 recover-spec = tie.close (tie.spec (search needs) (search needs) (search needs) returns)
