@@ -37,7 +37,8 @@ unfolding askRollbackOwn _and_
 returns-3 c =
     let i = c .before .before .before .before in
     let t = i .before .before in
-    opened _ (t .before .before .admit .ensures) (t .enum-told .given .1) (no _ (lt-leb _ _ (i .if1 .left)) (yes _ (c .before .if2 .taken) (c .refuse2 .ensures)))
+    opened _ (t .before .before .admit .ensures) (t .enum-told .given .1)
+    (no _ (lt-leb _ _ (i .if1 .left)) (yes _ (c .before .if2 .taken) (c .refuse2 .ensures)))
 
 returns-4 : tie.Need-returns-4
 unfolding askRollbackOwn turned _and_
@@ -48,7 +49,8 @@ returns-4 c =
     let r = t .before .before .before .args .r in
     opened _ (t .before .before .admit .ensures) (t .enum-told .given .1)
     (no _ (lt-leb _ _ (i .if1 .left)) (no _ (k .if2 .left) (yes _ (eq-eqb _ _ (c .before .before .before .if3 .taken))
-    (c .answering2 .ensures ∙ ap (answer Finished) (c .before .with-ticket .ensures ∙ ap (withTicket (r .serial) None) (c .before .before .turned .ensures))))))
+    (c .answering2 .ensures
+    ∙ ap (answer Finished) (c .before .with-ticket .ensures ∙ ap (withTicket (r .serial) None) (c .before .before .turned .ensures))))))
 
 add-number : tie.Need-add-number
 unfolding _and_
@@ -71,4 +73,5 @@ returns-5 c =
 pub ask-rollback-spec : {M : Type 1} → statement M
 ask-rollback-spec =
     tie.close
-    (tie.spec (search needs) (search needs) (search needs) returns (search needs) (search needs) returns-2 (search needs) returns-3 (search needs) (search needs) (search needs) returns-4 add-number (search needs) (search needs) (search needs) returns-5)
+    (tie.spec (search needs) (search needs) (search needs) returns (search needs) (search needs) returns-2 (search needs) returns-3
+    (search needs) (search needs) (search needs) returns-4 add-number (search needs) (search needs) (search needs) returns-5)

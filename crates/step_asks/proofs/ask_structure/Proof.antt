@@ -13,7 +13,8 @@ unfolding askStructureOwn _or_
 returns c =
     let k = c .before .before .before .before in
     let r = k .before .before .args .r in
-    barred-out _ (askStructureBars r) (next _ _ (k .bar .ensures) (k .before .admit .ensures)) r _ (c .before .before .gate .given .1) (c .refuse .ensures)
+    barred-out _ (askStructureBars r) (next _ _ (k .bar .ensures) (k .before .admit .ensures)) r _ (c .before .before .gate .given .1)
+    (c .refuse .ensures)
 
 returns-2 : tie.Need-returns-2
 unfolding askStructureOwn _or_
@@ -44,4 +45,5 @@ returns-4 c =
 pub ask-structure-spec : {M : Type 1} → statement M
 ask-structure-spec =
     tie.close
-    (tie.spec (search needs) (search needs) (search needs) (search needs) returns (search needs) (search needs) returns-2 (search needs) returns-3 (search needs) (search needs) (search needs) returns-4)
+    (tie.spec (search needs) (search needs) (search needs) (search needs) returns (search needs) (search needs) returns-2 (search needs) returns-3
+    (search needs) (search needs) (search needs) returns-4)

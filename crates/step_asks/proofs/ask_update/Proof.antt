@@ -18,7 +18,8 @@ unfolding askUpdateOwn _or_
 returns c =
     let k = c .before .before .before .before in
     let r = k .before .before .before .args .r in
-    barred-out _ (askUpdateBars r) (next _ _ (k .bar .ensures) (k .before .before .admit .ensures)) r _ (c .before .before .gate .given .1) (c .refuse .ensures)
+    barred-out _ (askUpdateBars r) (next _ _ (k .bar .ensures) (k .before .before .admit .ensures)) r _ (c .before .before .gate .given .1)
+    (c .refuse .ensures)
 
 returns-2 : tie.Need-returns-2
 unfolding askUpdateOwn _or_
@@ -59,4 +60,5 @@ returns-4 c =
 pub ask-update-spec : {M : Type 1} → statement M
 ask-update-spec =
     tie.close
-    (tie.spec (search needs) (search needs) (search needs) (search needs) returns (search needs) (search needs) (search needs) returns-2 (search needs) returns-3 add-started (search needs) (search needs) returns-4)
+    (tie.spec (search needs) (search needs) (search needs) (search needs) returns (search needs) (search needs) (search needs) returns-2
+    (search needs) returns-3 add-started (search needs) (search needs) returns-4)
