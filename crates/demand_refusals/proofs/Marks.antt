@@ -11,21 +11,21 @@ use Rattle.status.specs.Status.{StatusCall, Marks, put, entryOf, marking, marks
 use Rattle.status.specs.declared.Entry.{Entry}
 use Rattle.demand_refusals.specs.Rows.{given, among, distinct, count}
 use Rattle.demand_refusals.specs.Marks.{statusRows, statusNumbers}
-use Rattle.demand_refusals.proofs.Rows.{View, Fits, now, row, row-else, again, around, under, over}
-use Rattle.demand_refusals.proofs.Rows.Leaf.{stays, goes}
+use Rattle.demand_refusals.proofs.Rows.{View, Fits, row, last, row-else, again, around, under, over}
+use Rattle.demand_refusals.proofs.Rows.Leaf.{stays}
 use Rattle.demand_refusals.proofs.OneRow.{Listed, one-given, one-listed}
 
 module _ (groups status : List ℕ) (id : ℕ) where
   abbrev leaving : View Marks
-  leaving = record { number = λ m. m .said .number; same = λ m. m .status ≡ status }
+  leaving = record { class = λ m. m .said .class; number = λ m. m .said .number; same = λ m. m .status ≡ status }
 
   fits-rows : (c : StatusCall) → Fits leaving (marksOf groups status id c) (statusRows groups status id c)
   unfolding statusRows entryOf marking put _and_
   fits-rows c =
       over F
-      (again _ _ _ _ (again _ _ _ _ (row _ (stays refl refl) (λ _.
-      again _ _ _ _ (around _ _ _ (stays refl refl)
-      (row-else _ (stays refl refl) (λ _. under F (row {v = leaving} _ (stays refl refl) (λ _. now (goes refl refl))))))))))
+      (again _ _ _ _ (again _ _ _ _ (row _ (stays refl refl refl) (λ _.
+      again _ _ _ _ (around _ _ _ (stays refl refl refl)
+      (row-else _ (stays refl refl refl) (λ _. under F (row {v = leaving} _ (stays refl refl refl) (λ _. last refl refl refl)))))))))
     where
       F : Entry → Marks
       F e = marking e status (allowed c) (next c)

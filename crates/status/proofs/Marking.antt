@@ -3,12 +3,10 @@ use Prim.Native.Nat.{ℕ}
 use mathlib.Core.Path.{_≡_, refl, sym, _∙_, ap}
 use mathlib.Core.Bool.{Bool}
 use mathlib.Core.List.{List}
-use lib.Dec.{eqb}
-use Rattle.choice.specs.Pick.{pick}
-use Rattle.choice.proofs.Picks.{no}
+use Rattle.record.specs.Classes.{Class}
+use Rattle.record.specs.Classes.Class.{performed, refusal, stepping}
 use Rattle.record.specs.Answers.{Said}
 use Rattle.record.specs.declared.Refusal.{Refusal}
-use Rattle.record.proofs.Saying.{refusalOf, refusal-back, not-done}
 use Rattle.status.specs.Status.{Marks, leavesMarks, saysMarked, put, marking}
 use Rattle.status.specs.declared.Marked.{Marked}
 use Rattle.status.specs.declared.Marked.the-variants as M
@@ -26,14 +24,17 @@ module _ {e d : Entry} (status : List ℕ) (allowed : ℕ → ℕ → Bool) (nex
   found-at {id} {group} {mark} h q w =
       q ∙ ap (λ (x : ℕ). put (allowed group mark) id x status) w ∙ ap (λ (x : Entry). marking x status allowed next) (sym h ∙ p)
 
-markedOf : ℕ → Marked
-markedOf n = pick (eqb n 0) M.Done (M.Refused (refusalOf n))
+-- the answer again, from its class; no step answer is one
+markedOf : Class → Marked
+markedOf performed = M.Done
+markedOf (refusal why) = M.Refused why
+markedOf (stepping s) = M.Done
 
-back : (a : Marked) → markedOf (saysMarked a .number) ≡ a
-unfolding markedOf pick
+back : (a : Marked) → markedOf (saysMarked a .class) ≡ a
+unfolding markedOf
 back M.Done = refl
-back (M.Refused w) = sym (no _ (not-done w) (sym (ap M.Refused (refusal-back w))))
+back (M.Refused w) = refl
 
 -- what a status call says determines its answer
 pub marked-one : (a b : Marked) → saysMarked a ≡ saysMarked b → a ≡ b
-marked-one a b e = sym (back a) ∙ ap (λ (s : Said). markedOf (s .number)) e ∙ back b
+marked-one a b e = sym (back a) ∙ ap (λ (s : Said). markedOf (s .class)) e ∙ back b

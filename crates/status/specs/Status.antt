@@ -5,17 +5,18 @@ use mathlib.Core.List.{List, []}
 use lib.Dec.{eqb, leb, ltb}
 use lib.ListN.{length, getD, set}
 use Rattle.choice.specs.Pick.{pick, _and_, _or_}
-use Rattle.record.specs.Answers.{Said, said, refusalNumber}
+use Rattle.record.specs.Classes.Class.{performed, refusal}
+use Rattle.record.specs.Answers.{Said, said}
 use Rattle.record.specs.declared.Refusal.the-variants.{BadArea, Damaged, NoStatus}
 use Rattle.status.specs.declared.Marked.{Marked}
 use Rattle.status.specs.declared.Marked.the-variants as M
 use Rattle.status.specs.declared.Entry.{Entry}
 use Rattle.status.specs.declared.Entry.the-variants.{At, No}
 
--- the number and values of each case
+-- the class and values of each case
 abbrev pub saysMarked : Marked → Said
-saysMarked M.Done = said 0 []
-saysMarked (M.Refused why) = said (refusalNumber why) []
+saysMarked M.Done = said performed []
+saysMarked (M.Refused why) = said (refusal why) []
 
 -- what a call answers, and the status bytes that it leaves
 pub record Marks : Type 0 where

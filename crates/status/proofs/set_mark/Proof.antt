@@ -3,6 +3,7 @@ use mathlib.Core.List.{[]}
 use mathlib.Core.Path.{refl, ap, sym}
 use lib.Seq.{set-out}
 use Rattle.choice.proofs.Picks.{yes, no}
+use Rattle.record.specs.Classes.Class.{performed}
 use Rattle.record.specs.Answers.{said}
 use Rattle.status.specs.Status.{leavesMarks, put}
 use borrow.Author.Needs.{needs}
@@ -19,7 +20,7 @@ returns-2 c = no _ (c .before .if1 .left) refl
 
 returns-3 : tie.Need-returns-3
 unfolding put
-returns-3 c = no _ (c .before .if1 .left) (ap (leavesMarks (said 0 [])) (sym (set-out _ _ _ (c .if2 .left))))
+returns-3 c = no _ (c .before .if1 .left) (ap (leavesMarks (said performed [])) (sym (set-out _ _ _ (c .if2 .left))))
 
 pub set-mark-spec : {M : Type 1} → statement M
 set-mark-spec = tie.close (tie.spec returns (search needs) (search needs) returns-2 returns-3)
