@@ -1,93 +1,122 @@
 -- Payloads, updates and identities in what is lent: the clauses that need the areas or the table. Assumes nothing.
 use Prim.Native.Nat.{ℕ, _*_, _-_, _/_, _%_, _≤_}
-use mathlib.Core.Path.{_≡_, sym, subst}
-use mathlib.Core.Bool.{Bool, true, false}
-use mathlib.Core.List.{List, [], _∷_}
-use lib.Dec.{eqb}
-use lib.ListN.{length}
+use mathlib.Core.{Path._≡_, Path.refl, Path.sym, Path._∙_, Path.ap, Path.subst, Bool.Bool, Bool.true, Bool.false, List.List, List.[], List._∷_}
+use native.Mathlib.Omega.{arith}
+use lib.{Dec.eqb, ListN.length}
 use Rattle.choice.specs.Pick.{_and_}
-use Rattle.choice.proofs.Tests.{tests, both, test}
-use Rattle.areas.specs.Areas.{areaSize, sized, copied}
-use Rattle.batch.specs.Batch.{limit, tableSized, paired, pairsIn, stored}
+use Rattle.choice.proofs.{Tests.tests, Tests.both, Tests.test, Tests.never}
+use Rattle.areas.specs.Areas.{sized, copied}
+use Rattle.batch.specs.Batch.{limit, tableSized, paired, stored}
 use Rattle.batch.proofs.Laws.{stored-identities}
-use Rattle.record.specs.Classes.{refused}
-use Rattle.record.specs.Answers.{Told}
-use Rattle.record.specs.Leaves.{Leaves}
-use Rattle.record.specs.Fields.{top}
-use Rattle.record.specs.declared.Record.{Record}
-use Rattle.record.specs.declared.Outcome.{Outcome}
+use Rattle.phases.specs.declared.{Next.Next, Next.the-variants.To, Next.the-variants.Nowhere}
+use Rattle.record.specs.Classes.{refused, Class.performed}
+use Rattle.record.specs.{Answers.Told, Leaves.Leaves, Given.beginning, Fields.top}
+use Rattle.record.specs.declared.{Record.Record, Outcome.Outcome, Beginning.Beginning}
 use Rattle.wholeness.specs.Whole.{whole}
-use Rattle.calls.specs.Lending.{Stored, Lending, leavesOf}
-use Rattle.clauses.specs.Keeping.{Stores}
-use Rattle.clauses.specs.Lending.{Lends, Stages, Holds, SameIdentities}
-use Rattle.clauses.specs.Staging.{BeginClauses}
-use Rattle.clauses.proofs.Splitting.{performed-real}
-use Rattle.clauses.proofs.Stagings.{begin-clauses, begin-structural-clauses}
-use Rattle.clauses.proofs.Storing.{edit-stores, report-stores}
-use Rattle.clauses.proofs.Lendings.{begin-lends, begin-structural-lends, edit-lends, report-structure-lends, report-update-lends, report-rollback-lends, payload-copied, pairs-copied}
+use Rattle.log.specs.Log.{sound}
+use Rattle.noting.specs.{Recorded.withLog, Through.leavesThrough}
+use Rattle.step_begins.specs.Beginning.{editOwn}
+use Rattle.step_reports.specs.{Done.onward, Done.advanced, Done.structureDone, Reports.reportStructureOwn}
+use Rattle.calls.specs.Calls.{Report, Call, step, AnyCall.calls}
+use Rattle.calls.specs.Lending.{Stored.structured, Stored.updated, Stored.rolledBack, Lending, Lending.begin, Lending.report, Lending.edit, callOf, fits, moved, leavesOf}
+use Rattle.demand_steps.proofs.{Own.own, Facts.Whole}
+use Rattle.clauses.specs.{Lending.Stages, Lending.Holds, Lending.SameIdentities, Staging.Begun, Gaps.BeginAnswer, Gaps.Rejects, Recording.unlogged}
+use Rattle.clauses.proofs.{Splitting.by, Splitting.outcomes, Splitting.facts-after, Splitting.on-step, Stagings.begin-answer, Stagings.begin-clauses}
+use Rattle.clauses.proofs.{Lendings.lends, Lendings.payload-copied, Lendings.pairs-copied, Recorder.fit, Recorder.carried-over}
 
--- where all sizes are right, what holds of the step holds of what is told
-pub of-told : (P : Told → Type 0) {r : Record} {b : Bool} {t : Told} {lent moved : List (List ℕ)} {v : Leaves} → Lends r b t lent moved v → b ≡ true → P t → P (v .told)
-of-told P x b p = subst P (sym (x .tells b)) p
-
--- two payloads that were copied, with their lengths
-stages : (c o new old : List ℕ) (rest : List (List ℕ)) (v : Leaves) → sized c ≡ true → sized o ≡ true → length new ≤ areaSize → length old ≤ areaSize →
-    v .told .state .candidate ≡ length new → v .told .state .recovery ≡ length old → v .lent ≡ copied new c ∷ copied old o ∷ rest → Stages new old v
-stages c o new old rest v x y h i e f l = rw (e, f, l) record { candidate = payload-copied new c x h; recovery = payload-copied old o y i }
+-- two payloads that were copied with their lengths, which fit, as the record afterwards is whole
+stages : {v : Leaves} (c o new old : List ℕ) (rest : List (List ℕ)) → sized c and sized o ≡ true → Whole (v .told .state) →
+    (v .told .state .candidate ≡ length new) × (v .told .state .recovery ≡ length old) → v .lent ≡ copied new c ∷ copied old o ∷ rest → Stages new old v
+stages c o new old rest s w e l = let x = both s in
+    rw (e .0, e .1, l) record {
+      candidate = payload-copied new c (x .0) (omega (arith, w .lengths .candidate));
+      recovery = payload-copied old o (x .1) (omega (arith, w .lengths .recovery));
+    }
 
 -- an even number of words is twice its half
 even : (n : ℕ) → eqb (n % 2) 0 ≡ true → n / 2 ≤ limit → n ≤ 2 * limit
 even n e h = omega tests
 
-module _ (r : Record) (m : r .revision ≤ top) (w : whole r ≡ true) (c o : List ℕ) where
+-- going on keeps both lengths
+on-keeps : (next : Next) (q : Record) → (onward next q .candidate ≡ q .candidate) × (onward next q .recovery ≡ q .recovery)
+unfolding onward
+on-keeps (To next) q = (refl, refl)
+on-keeps Nowhere q = (refl, refl)
+
+module _ (r : Record) (m : r .revision ≤ top) (w : whole r ≡ true) where
+  -- where all sizes are right, what holds of the step holds of what is told
+  of-told : (P : Told → Type 0) (c : Lending false) {d : Call} → callOf c ≡ calls d → fits c ≡ true → P (step r d) → P (leavesOf r c .told)
+  of-told P c e s p = subst P (sym (lends r c e .tells s)) p
+
   -- `begin` and `begin_structural`
-  module _ (t new old pairs : List ℕ) (s : sized c and sized o and tableSized t and paired pairs ≡ true) where
-    begun : {p : ℕ} {x : Told} {v : Leaves} →
-        Lends r (sized c and sized o and tableSized t and paired pairs) x (c ∷ o ∷ t ∷ []) (copied new c ∷ copied old o ∷ pairsIn pairs t ∷ []) v →
-        BeginClauses p r (length new) (length old) (length pairs / 2) x → v .told .number ≡ 0 → Stages new old v × Holds pairs v
-    unfolding paired
-    begun {p} x y h =
-        let z = both s in
-        let q = both (z .0) in
-        let u = both (q .0) in
-        let k = of-told (BeginClauses p r (length new) (length old) (length pairs / 2)) x s y in
-        let a = k .c147 .0 h in
-        let g = k .ok h in
-        let l = x .moves (performed-real h) in (
-          stages c o new old _ _ (u .0) (u .1) (a .candidate) (a .recovery) (g .c149-candidate) (g .c149-recovery) l,
-          record { number = g .c153; updates = rw l (pairs-copied pairs t (q .1) (even (length pairs) (z .1) (a .few))) },
-        )
+  module _ (structural : Bool) (c o t new old pairs : List ℕ) where
+    abbrev given : Beginning
+    given = beginning (length new) (length old) (length pairs / 2)
 
-    pub begin-areas : leavesOf r (Lending.begin false c o t new old pairs) .told .number ≡ 0 → Stages new old (leavesOf r (Lending.begin false c o t new old pairs)) × Holds pairs (leavesOf r (Lending.begin false c o t new old pairs))
-    begin-areas = begun (begin-lends r c o t new old pairs) (begin-clauses r (length new) (length old) (length pairs / 2) m w)
+    abbrev left : Leaves
+    left = leavesOf r (begin structural c o t new old pairs)
 
-    pub begin-structural-areas : leavesOf r (Lending.begin true c o t new old pairs) .told .number ≡ 0 → Stages new old (leavesOf r (Lending.begin true c o t new old pairs)) × Holds pairs (leavesOf r (Lending.begin true c o t new old pairs))
-    begin-structural-areas = begun (begin-structural-lends r c o t new old pairs) (begin-structural-clauses r (length new) (length old) (length pairs / 2) m w)
+    module _ (s : sized c and sized o and tableSized t and paired pairs ≡ true) where
+      told : (P : Told → Type 0) → P (step r (Call.begin structural given)) → P (left .told)
+      told P = of-told P (begin structural c o t new old pairs) refl s
+
+      pub begin-areas : left .told .class ≡ performed → Stages new old left × Holds pairs left
+      unfolding paired
+      begin-areas h =
+          let z = both s in
+          let q = both (z .0) in
+          let g = told (λ u. u .class ≡ performed → Begun structural given (u .state)) (begin-clauses r given m w structural .ok) h in
+          let k = told (λ u. Whole (u .state)) (facts-after r m w (Call.begin structural given)) in
+          let l = lends r (begin {logged = false} structural c o t new old pairs) refl .moves (ap refused h) in (
+            stages c o new old _ (q .0) k (g .c149-candidate, g .c149-recovery) l,
+            record { number = g .c153; updates = rw l (pairs-copied pairs t (q .1) (even (length pairs) (z .1) (omega (arith, k .size .few, g .c153)))) },
+          )
+
+      -- what a refused one holds, and where one that is performed starts
+      pub begin-rejects : Rejects r given (c ∷ o ∷ t ∷ []) left
+      begin-rejects = let x = begin-clauses r given m w structural in record {
+        answered = told (λ u. BeginAnswer r given (u .class)) (begin-answer r given m w structural);
+        same = λ e. (told (λ u. refused (u .class) ≡ true → u .state ≡ r) (x .c154) e, lends r (begin {logged = false} structural c o t new old pairs) refl .stays e);
+        zero = λ e. let b = told (λ u. u .class ≡ performed → Begun structural given (u .state)) (x .ok) e in (b .c150, b .c151, b .c152);
+      }
+
+    -- C306, C307: through a log
+    pub begin-carried-areas : (log : List ℕ) → withLog (sized c and sized o and tableSized t and paired pairs) log .sized ≡ true → sound log ≡ true →
+        leavesThrough r log (begin structural c o t new old pairs) .told .class ≡ performed →
+        Stages new old (unlogged (leavesThrough r log (begin structural c o t new old pairs))) × Holds pairs (unlogged (leavesThrough r log (begin structural c o t new old pairs)))
+    begin-carried-areas log z h e =
+        carried-over r log (begin structural c o t new old pairs) refl z h (λ i. never (ap refused (sym i ∙ e)))
+        (λ v. v .told .class ≡ performed → Stages new old v × Holds pairs v) (begin-areas (fit _ log z)) e
 
   -- `pending_mut` and `work`, and what `structural_call` leaves
-  module _ (new old : List ℕ) (s : sized c and sized o ≡ true) where
-    replaced : {x : Told} {v : Leaves} → Lends r (sized c and sized o) x (c ∷ o ∷ []) (copied new c ∷ copied old o ∷ []) v →
-        (refused (x .class) ≡ false → Stores (length new) (length old) (x .state)) → refused (v .told .class) ≡ false → Stages new old v
-    replaced x f h =
-        let u = both s in
-        let k = of-told (λ t. refused (t .class) ≡ false → Stores (length new) (length old) (t .state)) x s f h in
-        stages c o new old _ _ (u .0) (u .1) (k .candidate-fits) (k .recovery-fits) (k .candidate) (k .recovery) (x .moves h)
+  module _ (c o new old : List ℕ) (s : sized c and sized o ≡ true) where
+    abbrev Stores : Told → Type 0
+    Stores u = refused (u .class) ≡ false → (u .state .candidate ≡ length new) × (u .state .recovery ≡ length old)
 
-    pub edit-areas : refused (leavesOf r (Lending.edit c o new old) .told .class) ≡ false → Stages new old (leavesOf r (Lending.edit c o new old))
-    edit-areas = replaced (edit-lends r c o new old) (edit-stores r (length new) (length old) m w)
+    replaced : (x : Lending false) {d : Call} → callOf x ≡ calls d → fits x ≡ true → moved r x ≡ copied new c ∷ copied old o ∷ [] → Stores (step r d) →
+        refused (leavesOf r x .told .class) ≡ false → Stages new old (leavesOf r x)
+    replaced x {d} e f q p h =
+        stages c o new old [] s (of-told (λ u. Whole (u .state)) x e f (facts-after r m w d)) (of-told Stores x e f p h) (lends r x e .moves h ∙ q)
 
-    pub report-structure-areas : (k : ℕ) (x : Outcome) → refused (leavesOf r (Lending.report (Stored.structured c o new old) k x) .told .number) ≡ false → Stages new old (leavesOf r (Lending.report (Stored.structured c o new old) k x))
-    report-structure-areas k x = replaced (report-structure-lends r c o k x new old) (report-stores r m w k x (length new) (length old))
+    pub edit-areas : refused (leavesOf r (edit c o new old) .told .class) ≡ false → Stages new old (leavesOf r (edit c o new old))
+    unfolding own editOwn
+    edit-areas = replaced (edit c o new old) refl s refl (on-step r m w (Call.edit (length new) (length old)) Stores
+        (by Stores _ (λ e k i. never i) (λ e. by Stores _ (λ d k i. never i) (λ d k i. (refl, refl)))))
+
+    pub report-structure-areas : (k : ℕ) (x : Outcome) → refused (leavesOf r (report (structured c o new old) k x) .told .class) ≡ false → Stages new old (leavesOf r (report (structured c o new old) k x))
+    unfolding own reportStructureOwn structureDone advanced
+    report-structure-areas k x =
+        replaced (report (structured c o new old) k x) refl s refl (on-step r m w (Call.report (Report.structured (length new) (length old)) k x) Stores
+        (by Stores _ (λ e k i. never i) (λ e. by Stores _ (λ d k i. never i) (λ d.
+        outcomes Stores x (λ a vs n k i. (refl, refl)) (by Stores _ (λ b k i. on-keeps _ _) (λ b k i. on-keeps _ _))))))
 
 -- the table that a report is lent, whether it is refused or not
 module _ (r : Record) (t : List ℕ) (k : ℕ) (x : Outcome) (value : ℕ) where
-  identified : {b : Bool} {y : Told} {v : Leaves} (i : ℕ) → Lends r b y (t ∷ []) (stored i value t ∷ []) v → SameIdentities t v
-  identified {v = v} i l = record {
-    identities = λ j. test (refused (v .told .class)) (λ e. rw (l .stays e)) (λ e. rw (l .moves e) (stored-identities t i value j));
-  }
+  identified : {v : Leaves} (i : ℕ) → (refused (v .told .class) ≡ true → v .lent ≡ t ∷ []) → (refused (v .told .class) ≡ false → v .lent ≡ stored i value t ∷ []) → SameIdentities t v
+  identified {v} i f g = record { identities = λ j. test (refused (v .told .class)) (λ e. rw (f e)) (λ e. rw (g e) (stored-identities t i value j)) }
 
-  pub update-identities : SameIdentities t (leavesOf r (Lending.report (Stored.updated t value) k x))
-  update-identities = identified (r .applied) (report-update-lends r t k x value)
+  pub update-identities : SameIdentities t (leavesOf r (report (updated t value) k x))
+  update-identities = let l = lends r (report {logged = false} (updated t value) k x) refl in identified (r .applied) (l .stays) (l .moves)
 
-  pub rollback-identities : SameIdentities t (leavesOf r (Lending.report (Stored.rolledBack t value) k x))
-  rollback-identities = identified (r .entries - 1) (report-rollback-lends r t k x value)
+  pub rollback-identities : SameIdentities t (leavesOf r (report (rolledBack t value) k x))
+  rollback-identities = let l = lends r (report {logged = false} (rolledBack t value) k x) refl in identified (r .entries - 1) (l .stays) (l .moves)

@@ -1,44 +1,41 @@
--- `commit`, `recover`, `recover_with` and `refresh`, clause by clause. Assumes nothing.
-use Prim.Native.Nat.{ℕ, _≤_}
-use mathlib.Core.Path.{_≡_, refl}
-use mathlib.Core.Bool.{Bool, true, false, not}
-use mathlib.Core.Logic.{_≢_}
+-- `commit`, `recover`, `recover_with`, `refresh`, `save_stamp` and `accepts_save`, clause by clause, and which error a recovery gives.
+-- Assumes nothing.
+use Prim.Native.Nat.{ℕ, _+_, _≤_}
+use mathlib.Core.{Path._≡_, Path.refl, Path.ap, Bool.true, Bool.false, Bool.not, List.List, List.[], Logic._≢_, Logic._↔_}
 use native.Mathlib.Omega.{arith}
 use lib.Dec.{eqb}
-use borrow.Author.Tests.{eqb-true, ltb-false, not-true, not-false}
+use borrow.Author.Tests.{eqb-true, ltb-true, ltb-false, le-ltb, not-true, not-false}
 use Rattle.choice.specs.Pick.{pick, _or_}
-use Rattle.choice.proofs.Picks.{yes, no}
-use Rattle.choice.proofs.Tests.{tests, never, both, either, neither}
+use Rattle.choice.proofs.{Picks.yes, Picks.no, Tests.tests, Tests.never, Tests.both, Tests.either, Tests.neither}
 use Rattle.areas.specs.Areas.{areaSize, long}
-use Rattle.record.specs.Classes.{refusalNumber}
-use Rattle.record.specs.Answers.{Told, refuse}
-use Rattle.record.specs.Fields.{top}
-use Rattle.record.specs.declared.Record.{Record}
-use Rattle.record.specs.declared.Refusal.{Refusal}
-use Rattle.record.specs.declared.Refusal.the-variants.{Idle, NotReady, TooLong}
-use Rattle.wholeness.specs.Whole.{whole, complete}
-use Rattle.step_ends.specs.Ending.{idleAt, commitOwn, unrestored, recoveredTo, recoverOwn, recoverRetainedOwn}
-use Rattle.calls.specs.Calls.{step}
-use Rattle.calls.specs.Calls.Call.{commit, recover, recoverRetained}
-use Rattle.demand_steps.proofs.Own.{own}
-use Rattle.demand_steps.proofs.Reading.{whole-facts}
-use Rattle.demand_steps.proofs.Testing.{ranges}
-use Rattle.demand_chains.proofs.Granting.{clash}
-use Rattle.demand_steps.proofs.Reopening.{after-commit-opens}
+use Rattle.record.specs.Classes.{Class, Class.refusal}
+use Rattle.record.specs.{Answers.Told, Answers.answer, Fields.top}
+use Rattle.record.specs.declared.{Record.Record, Answer.the-variants.Done, Was.the-variants.Three}
+use Rattle.record.specs.declared.Refusal.the-variants.{Idle, NotReady}
+use Rattle.wholeness.specs.{Whole.whole, Whole.complete, Gates.Bar, Gates.barring, Gates.longSnapshot}
+use Rattle.wholeness.proofs.Passing.{Clear}
+use Rattle.step_ends.specs.Ending.{idleAt, commitBars, commitOwn, unrestored, recoverBars, recoveredTo, recoverOwn, recoverRetainedOwn}
+use Rattle.calls.specs.Calls.{Call, step, Call.commit, Call.recover, Call.recoverRetained}
+use Rattle.demand_steps.proofs.{Own.own, Reading.whole-facts, Testing.ranges, Reopening.after-commit-opens}
 use Rattle.clauses.specs.Keeping.{gained}
-use Rattle.clauses.specs.Ending.{CanCommit, CommitClauses, CanRecover, RecoverClauses}
-use Rattle.clauses.proofs.Splitting.{Kept, refusal-real, performed-fine, by, on-step}
+use Rattle.clauses.specs.Ending.{CanCommit, Committed, CommitClauses, CanRecover, Recovered, RecoverClauses}
+use Rattle.clauses.specs.Gaps.{RecoverAnswer}
+use Rattle.clauses.proofs.Splitting.{nor, Each, Decided, Decided.refuses, Decided.does, decides, only, denied, keeps, still-whole, settled}
 
 -- 0 or q, and not 0
 the-other : (p q : ℕ) → eqb p 0 or eqb p q ≡ true → p ≢ 0 → p ≡ q
 the-other p q e n = either e (λ i. absurd (n (eqb-true _ _ i))) (λ i. eqb-true _ _ i)
 
--- not staged, as the calls test it
-idle-number : (s : Bool) → not s ≡ true → _≡_ {A = ℕ} 2 (pick s 4 2)
-idle-number s e = no _ (not-true _ e) refl
+-- not staged, as the calls test it, and staged
+module _ (r : Record) where
+  abbrev Unready : Class → Type 0
+  Unready c = c ≡ refusal (pick (r .staged) NotReady Idle)
 
-staged-number : (s : Bool) → not s ≡ false → _≡_ {A = ℕ} 4 (pick s 4 2)
-staged-number s e = yes _ (not-false _ e) refl
+  is-idle : not (r .staged) ≡ true → Unready (refusal Idle)
+  is-idle e = ap refusal (no _ (not-true _ e) refl)
+
+  is-staged : not (r .staged) ≡ false → Unready (refusal NotReady)
+  is-staged e = ap refusal (yes _ (not-false _ e) refl)
 
 -- a complete batch is applied
 all-applied : (r : Record) → complete r ≡ true → r .applied ≡ r .entries
@@ -46,74 +43,89 @@ unfolding complete
 all-applied r e = eqb-true _ _ (both e .1)
 
 module _ (r : Record) (m : r .revision ≤ top) (w : whole r ≡ true) where
-  commit-refuses : (why : Refusal) → (CanCommit r → ⊥) → refusalNumber why ≡ pick (r .staged) 4 2 → Kept (CommitClauses r) (refuse why r)
-  commit-refuses why f e k = record {
-    c189 = k;
-    c190 = (λ i. absurd (refusal-real why i), λ x. absurd (f x));
-    c191 = λ i. refl;
-    c192 = λ i. e;
-    ok = λ i. absurd (refusal-real why i);
-  }
+  can-commit : Clear (commitBars r) → CanCommit r
+  can-commit x = let y = neither (x .1 .0) in record { staged = not-false _ (x .0); complete = not-false _ (y .0); place = not-false _ (y .1) }
+
+  committed : Decided r (Unready r) (answer (Done (Three (r .accepted) (r .recovery) (r .entries))) (idleAt (r .revision + 1) (r .candidate) r)) (commitBars r) (step r commit)
+  unfolding own commitOwn
+  committed = settled r commit (commitBars r) w refl (is-idle r, λ e₁. (λ e. is-staged r e₁, λ e₂. refl))
 
   pub commit-clauses : CommitClauses r (step r commit)
-  unfolding own commitOwn idleAt
-  commit-clauses = on-step (CommitClauses r) r commit m w
-      (by (CommitClauses r) _ (λ e. commit-refuses Idle (λ x. clash _ (x .staged) (not-true _ e)) (idle-number _ e)) (λ e₁.
-      by (CommitClauses r) _ (λ e. commit-refuses NotReady (λ x. either e (λ i. clash _ (x .complete) (not-true _ i)) (λ i. clash _ (x .place) (not-true _ i))) (staged-number _ e₁))
-      (λ e₂ k. let x = neither e₂ in let q : eqb (r .phase .number) 0 or eqb (r .phase .number) 7 ≡ true = not-false _ (x .1) in record {
-        c189 = k;
-        c190 = (λ i. record { staged = not-false _ e₁; complete = not-false _ (x .0); place = q }, λ y. refl);
-        c191 = performed-fine;
-        c192 = performed-fine;
-        ok = λ i. record {
-          c193 = λ n. let z = the-other _ _ q n in omega (arith, ranges (whole-facts r m w .stage) .ahead .late (omega arith) (omega arith));
-          c194 = refl;
-          c195 = refl;
-          c196 = refl;
-          c197 = refl;
-          c200 = all-applied r (not-false _ (x .0));
-          c189-record = after-commit-opens _ _ r;
-        };
-      })))
+  unfolding idleAt
+  commit-clauses = record {
+    c189 = still-whole r m w commit;
+    c190 = decides committed refl can-commit (λ y. (ap not (y .staged), (nor (ap not (y .complete)) (ap not (y .place)), refl)));
+    c191 = λ i. denied committed refl i .0;
+    c192 = λ i. denied committed refl i .1;
+    ok = only (Committed r) committed (λ x. let y = can-commit x in record {
+      c193 = λ n. let z = the-other _ _ (y .place) n in omega (arith, ranges (whole-facts r m w .stage) .ahead .late (omega arith) (omega arith));
+      c194 = refl;
+      c195 = refl;
+      c196 = refl;
+      c197 = refl;
+      c200 = all-applied r (y .complete);
+      c189-record = after-commit-opens _ _ r;
+    });
+  }
+
+  -- both recoveries: to a payload of length n, whose own refusal comes next
+  module _ (n : ℕ) (next : List Bar) (z : Clear next ↔ (n ≤ areaSize)) where
+    abbrev Error : Class → Type 0
+    Error c = RecoverAnswer r n c × (gained c ≡ false → Unready r c)
+
+    can : Clear (recoverBars r next) → CanRecover r n
+    unfolding unrestored
+    can x = let y = neither (x .1 .0) in record { staged = not-false _ (x .0); empty = omega (tests, y .0); place = not-false _ (y .1); fits = z .0 (x .1 .1) }
+
+    clear : CanRecover r n → Clear (recoverBars r next)
+    unfolding unrestored
+    clear y = (ap not (y .staged), (nor (le-ltb 0 (r .entries) (omega (arith, y .empty))) (ap not (y .place)), z .1 (y .fits)))
+
+    answered : {t : Told} → Decided r Error (recoveredTo n r) (recoverBars r next) t → RecoverAnswer r n (t .class)
+    answered (refuses k e) = e .0
+    answered (does x) = RecoverAnswer.recovers (can x)
+
+    module _ (c : Call) (e : own r c ≡ barring (recoverBars r next) r (recoveredTo n r)) (f : not (r .staged) ≡ false → unrestored r ≡ false → Each Error next) where
+      decided : Decided r Error (recoveredTo n r) (recoverBars r next) (step r c)
+      unfolding unrestored
+      decided = settled r c (recoverBars r next) w e
+          (λ i. (RecoverAnswer.idle (not-true _ i), λ g. is-idle r i), λ e₁. (λ i. (RecoverAnswer.notReady (not-false _ e₁) i, λ g. is-staged r e₁), f e₁))
+
+      recovers : RecoverAnswer r n (step r c .class) × RecoverClauses r n (step r c)
+      unfolding idleAt
+      recovers = let x : RecoverClauses r n (step r c) = record {
+        c202 = still-whole r m w c;
+        c203 = keeps (λ s. s .revision ≡ r .revision) decided refl refl;
+        c204 = decides decided refl can clear;
+        c205 = λ i. denied decided refl i .0;
+        error = λ i. denied decided refl i .1 .1;
+        ok = only (Recovered r n) decided (λ y. record {
+          c207 = λ k. let q = the-other _ _ (can y .place) k in omega (arith, ranges (whole-facts r m w .stage) .behind .late (omega arith));
+          c208 = refl;
+          c209 = refl;
+          c210 = refl;
+          c202-record = after-commit-opens _ _ r;
+        });
+      } in (answered decided, x)
 
   module _ (n : ℕ) where
-    abbrev Recovers : Told → Type 0
-    Recovers = RecoverClauses r n
+    to-snapshot : RecoverAnswer r n (step r (recover n) .class) × RecoverClauses r n (step r (recover n))
+    unfolding own recoverOwn long unrestored
+    to-snapshot = recovers n (longSnapshot n []) (λ x. ltb-false _ _ (x .0), λ h. (le-ltb _ _ h, refl)) (recover n) refl (λ e₁ e₂. let y = neither e₂ in
+        (λ e. (RecoverAnswer.tooLong (not-false _ e₁) (omega (tests, y .0)) (not-false _ (y .1)) (ltb-true _ _ e), never), λ e₃. refl))
 
-    recover-refuses : (why : Refusal) → (CanRecover r n → ⊥) → (gained (refusalNumber why) ≡ false → refusalNumber why ≡ pick (r .staged) 4 2) → Kept Recovers (refuse why r)
-    recover-refuses why f e k = record {
-      c202 = k;
-      c203 = refl;
-      c204 = (λ i. absurd (refusal-real why i), λ x. absurd (f x));
-      c205 = λ i. refl;
-      error = λ i. e;
-      ok = λ i. absurd (refusal-real why i);
-    }
+    pub recover-answer : RecoverAnswer r n (step r (recover n) .class)
+    recover-answer = to-snapshot .0
 
-    recovers : not (r .staged) ≡ false → unrestored r ≡ false → n ≤ areaSize → Kept Recovers (recoveredTo n r)
-    unfolding idleAt unrestored
-    recovers e₁ e₂ h k = let x = neither e₂ in let q : eqb (r .phase .number) 0 or eqb (r .phase .number) 13 ≡ true = not-false _ (x .1) in record {
-      c202 = k;
-      c203 = refl;
-      c204 = (λ i. record { staged = not-false _ e₁; empty = omega (tests, x .0); place = q; fits = h }, λ y. refl);
-      c205 = performed-fine;
-      error = performed-fine;
-      ok = λ i. record { c207 = λ z. let y = the-other _ _ q z in omega (arith, ranges (whole-facts r m w .stage) .behind .late (omega arith)); c208 = refl; c209 = refl; c210 = refl; c202-record = after-commit-opens _ _ r };
-    }
+    pub recover-clauses : RecoverClauses r n (step r (recover n))
+    recover-clauses = to-snapshot .1
 
-    -- 2, and then 4
-    unready : {x : Told} → (not (r .staged) ≡ false → unrestored r ≡ false → Kept Recovers x) → Kept Recovers (pick (not (r .staged)) (refuse Idle r) (pick (unrestored r) (refuse NotReady r) x))
-    unfolding unrestored
-    unready f =
-        by Recovers _ (λ e. recover-refuses Idle (λ x. clash _ (x .staged) (not-true _ e)) (λ g. idle-number _ e)) (λ e₁.
-        by Recovers _ (λ e. recover-refuses NotReady (λ x. either e (λ i. omega (tests, x .empty)) (λ i. clash _ (x .place) (not-true _ i))) (λ g. staged-number _ e₁)) (f e₁))
+  to-retained : RecoverAnswer r (r .recovery) (step r recoverRetained .class) × RecoverClauses r (r .recovery) (step r recoverRetained)
+  unfolding own recoverRetainedOwn
+  to-retained = recovers (r .recovery) [] (λ x. whole-facts r m w .lengths .recovery, λ h. refl) recoverRetained refl (λ e₁ e₂. refl)
 
-    pub recover-clauses : Recovers (step r (recover n))
-    unfolding own recoverOwn long gained
-    recover-clauses = on-step Recovers r (recover n) m w
-        (unready (λ e₁ e₂. by Recovers _ (λ e. recover-refuses TooLong (λ x. omega (tests, x .fits)) never) (λ e₃. recovers e₁ e₂ (ltb-false _ _ e₃))))
+  pub recover-retained-answer : RecoverAnswer r (r .recovery) (step r recoverRetained .class)
+  recover-retained-answer = to-retained .0
 
   pub recover-retained-clauses : RecoverClauses r (r .recovery) (step r recoverRetained)
-  unfolding own recoverRetainedOwn
-  recover-retained-clauses = let n = r .recovery in
-      on-step (Recovers n) r recoverRetained m w (unready n (λ e₁ e₂. recovers n e₁ e₂ (whole-facts r m w .lengths .recovery)))
+  recover-retained-clauses = to-retained .1

@@ -1,50 +1,37 @@
--- The gaps that document 01 reads in the upstream contracts, closed: structure and update. Assumes nothing.
+-- The gaps that document 01 reads in the upstream contracts, closed: structure, update and rollback. Assumes nothing.
 use Prim.Native.Nat.{ℕ, _≤_}
-use mathlib.Core.Path.{_≡_, refl, _∙_}
-use mathlib.Core.Bool.{true}
-use mathlib.Core.Logic.{_≢_}
+use mathlib.Core.{Path._≡_, Path.refl, Path._∙_, Bool.true, Logic._≢_}
 use native.Mathlib.Omega.{arith}
 use lib.Dec.{eqb}
-use borrow.Author.Tests.{eqb-true}
+use borrow.Author.Tests.{eq-eqb, eqb-true, lt-ltb, not-true}
 use Rattle.choice.specs.Pick.{pick}
-use Rattle.choice.proofs.Tests.{eqb-ne}
-use Rattle.areas.specs.Areas.{areaSize}
+use Rattle.choice.proofs.Tests.{tests, both, join, eqb-ne}
 use Rattle.phases.specs.Phases.{updates, adopt, undo, recoverRemove}
-use Rattle.record.specs.Answers.{Told}
-use Rattle.record.specs.Live.{isLive}
+use Rattle.areas.specs.Areas.{areaSize}
+use Rattle.record.specs.{Classes.Class.stepping, Classes.StepAnswer.finished, Answers.Told, Fields.top, Fields.adopting, Live.isLive}
 use Rattle.record.specs.Live as Tickets
-use Rattle.record.specs.Fields.{top, spent, adopting}
-use Rattle.record.specs.declared.Record.{Record}
-use Rattle.record.specs.declared.Outcome.{Outcome}
-use Rattle.record.specs.declared.Outcome.the-variants as O
+use Rattle.record.specs.declared.{Record.Record, Outcome.Outcome, Outcome.the-variants.Done}
 use Rattle.wholeness.specs.Whole.{whole}
-use Rattle.step_asks.specs.Asks.{askStructureOwn, askUpdateOwn}
-use Rattle.step_reports.specs.Done.{leaving, structureDone, updateDone, rollbackDone}
-use Rattle.step_reports.specs.Reports.{reported, reportStructureOwn}
-use Rattle.calls.specs.Calls.{step}
-use Rattle.calls.specs.Calls.Work.{structure, update}
-use Rattle.calls.specs.Calls.Report.{structured, updated, rolledBack}
-use Rattle.calls.specs.Calls.Call.{ask, report}
-use Rattle.demand_steps.proofs.Own.{own}
-use Rattle.demand_chains.proofs.Granting.{clash}
-use Rattle.demand_steps.proofs.Moves.{choice}
-use Rattle.clauses.specs.Gaps.{Succeeds, StructureAsked, AtFinished}
-use Rattle.clauses.proofs.Splitting.{Kept, too-long, by, on-step}
+use Rattle.step_asks.specs.Asks.{turned, askStructureOwn, askUpdateOwn, askRollbackOwn}
+use Rattle.step_reports.specs.{Done.leaving, Done.structureDone, Done.updateDone, Done.rollbackDone, Reports.reported, Reports.reportStructureOwn, Reports.reportUpdateOwn, Reports.reportRollbackOwn}
+use Rattle.calls.specs.Calls.{step, Work.structure, Work.update, Work.rollback, Report.structured, Report.updated, Report.rolledBack, Call.ask, Call.report}
+use Rattle.demand_steps.proofs.{Own.own, Moves.choice, Moves.turn}
+use Rattle.clauses.specs.Gaps.{Succeeds, StructureAsked, AtFinished, RollbackAsked}
+use Rattle.clauses.proofs.Splitting.{clash, fitted, differ, unended, by, outcomes, on-step}
 use Rattle.clauses.proofs.Onward.{no-successor, ended, exclusive, onwards}
 
 module _ (r : Record) (m : r .revision ≤ top) (w : whole r ≡ true) where
   -- a Done report with the live ticket, whose payloads fit
-  pub report-advances : (t c o : ℕ) → isLive Tickets.structure t (r .live) ≡ true → c ≤ areaSize → o ≤ areaSize → Succeeds r (step r (report (structured c o) t O.Done))
+  pub report-advances : (t c o : ℕ) → isLive Tickets.structure t (r .live) ≡ true → c ≤ areaSize → o ≤ areaSize → Succeeds r (step r (report (structured c o) t Done))
   unfolding own reportStructureOwn reported structureDone
-  report-advances t c o l x y = on-step (Succeeds r) r (report (structured c o) t O.Done) m w
-      (by (Succeeds r) _ (λ e. by (Succeeds r) _ (λ d. absurd (too-long c o d x y)) (λ d.
+  report-advances t c o l x y = on-step r m w (report (structured c o) t Done) (Succeeds r)
+      (by (Succeeds r) _ (λ e. clash _ l (not-true _ e)) (λ e. by (Succeeds r) _ (λ d. clash _ d (fitted x y)) (λ d.
       by (Succeeds r) _ (λ i k. record { onward = onwards r m w t l c o; finished = λ j. refl; more = clash _ i })
-      (λ i k. record { onward = onwards r m w t l c o; finished = λ j. clash _ j i; more = λ j. refl })))
-      (λ e. clash _ l e))
+      (λ i k. record { onward = onwards r m w t l c o; finished = λ j. clash _ j i; more = λ j. refl }))))
 
   pub structure-answers : StructureAsked r (step r (ask structure))
   unfolding own askStructureOwn
-  structure-answers = on-step (StructureAsked r) r (ask structure) m w
+  structure-answers = on-step r m w (ask structure) (StructureAsked r)
       (by (StructureAsked r) _ (λ e k. record {
         notReady = λ i. refl;
         finished = exclusive (r .phase .number) e;
@@ -74,11 +61,11 @@ module _ (r : Record) (m : r .revision ≤ top) (w : whole r ≡ true) where
       }))))
 
   -- a phase that a test picks, at the answer Finished
-  turns : {from to : ℕ} {t : Told} → t .number ≡ 24 → t .state .phase .number ≡ pick (eqb (r .phase .number) from) to (r .phase .number) → AtFinished from to r t
+  turns : {from to : ℕ} {t : Told} → t .class ≡ stepping finished → t .state .phase .number ≡ pick (eqb (r .phase .number) from) to (r .phase .number) → AtFinished from to r t
   turns {from} {to} n e = let x = choice (r .phase .number) from to (r .phase .number) in
       record { becomes = λ i j. e ∙ x .is j; stays = λ i. absurd (i n); elsewhere = λ j. e ∙ x .isnt j }
 
-  stands : {from to : ℕ} {t : Told} → t .number ≢ 24 → t .state .phase .number ≡ r .phase .number → AtFinished from to r t
+  stands : {from to : ℕ} {t : Told} → t .class ≢ stepping finished → t .state .phase .number ≡ r .phase .number → AtFinished from to r t
   stands n e = record { becomes = λ i. absurd (n i); stays = λ i. e; elsewhere = λ j. e }
 
   abbrev Updating : Told → Type 0
@@ -89,26 +76,52 @@ module _ (r : Record) (m : r .revision ≤ top) (w : whole r ≡ true) where
 
   pub update-asked-phase : Updating (step r (ask update))
   unfolding own askUpdateOwn adopting
-  update-asked-phase = on-step Updating r (ask update) m w
-      (by Updating _ (λ e k. stands (λ i. absurd (omega arith)) refl) (λ e₁. by Updating _ (λ e k. turns refl refl) (λ e₂.
-      by Updating _ (λ e k. stands (λ i. absurd (omega arith)) refl) (λ e₃ k. stands (λ i. absurd (omega arith)) refl))))
+  update-asked-phase = on-step r m w (ask update) Updating
+      (by Updating _ (λ e k. stands (unended refl) refl) (λ e₁. by Updating _ (λ e k. turns refl refl) (λ e₂.
+      by Updating _ (λ e k. stands (unended refl) refl) (λ e₃ k. stands (unended refl) refl))))
 
-  update-taken : (x : Outcome) → Kept Updating (reported x (spent r) (updateDone (spent r)))
-  unfolding reported updateDone adopting
-  update-taken O.Waiting = λ k. stands (λ i. absurd (omega arith)) refl
-  update-taken (O.Failed code) = λ k. stands (λ i. absurd (omega arith)) refl
-  update-taken O.Done = by Updating _ (λ e k. turns refl refl) (λ e k. stands (λ i. absurd (omega arith)) refl)
+  module _ (t : ℕ) (x : Outcome) where
+    pub update-reported-phase : Updating (step r (report updated t x))
+    unfolding own reportUpdateOwn updateDone adopting
+    update-reported-phase = on-step r m w (report updated t x) Updating (by Updating _ (λ e k. stands (unended refl) refl) (λ e.
+        outcomes Updating x (λ a vs n k. stands (unended n) refl) (by Updating _ (λ d k. turns refl refl) (λ d k. stands (differ refl) refl))))
 
-  pub update-reported-phase : (t : ℕ) (x : Outcome) → Updating (step r (report updated t x))
-  unfolding own
-  update-reported-phase t x = on-step Updating r (report updated t x) m w (by Updating _ (λ e. update-taken x) (λ e k. stands (λ i. absurd (omega arith)) refl))
+    pub rollback-reported-phase : Undoing (step r (report rolledBack t x))
+    unfolding own reportRollbackOwn rollbackDone leaving
+    rollback-reported-phase = on-step r m w (report rolledBack t x) Undoing (by Undoing _ (λ e k. stands (unended refl) refl) (λ e.
+        outcomes Undoing x (λ a vs n k. stands (unended n) refl) (by Undoing _ (λ d k. turns refl refl) (λ d k. stands (differ refl) refl))))
 
-  rollback-taken : (x : Outcome) → Kept Undoing (reported x (spent r) (rollbackDone (spent r)))
-  unfolding reported rollbackDone leaving
-  rollback-taken O.Waiting = λ k. stands (λ i. absurd (omega arith)) refl
-  rollback-taken (O.Failed code) = λ k. stands (λ i. absurd (omega arith)) refl
-  rollback-taken O.Done = by Undoing _ (λ e k. turns refl refl) (λ e k. stands (λ i. absurd (omega arith)) refl)
-
-  pub rollback-reported-phase : (t : ℕ) (x : Outcome) → Undoing (step r (report rolledBack t x))
-  unfolding own
-  rollback-reported-phase t x = on-step Undoing r (report rolledBack t x) m w (by Undoing _ (λ e. rollback-taken x) (λ e k. stands (λ i. absurd (omega arith)) refl))
+  pub rollback-asked-phase : RollbackAsked r (step r (ask rollback))
+  unfolding own askRollbackOwn turned
+  rollback-asked-phase = on-step r m w (ask rollback) (RollbackAsked r)
+      (by (RollbackAsked r) _ (λ e k. record {
+        empty = λ i j. absurd (omega tests);
+        some = λ i j. absurd (omega tests);
+        flat = λ i. i;
+        undoing = λ i. i;
+        behind = λ i. (refl, refl);
+        worn = λ i. absurd (omega tests);
+      }) (λ e₁.
+      by (RollbackAsked r) _ (λ e k. let x = both e in record {
+        empty = λ i j z. absurd (omega tests);
+        some = λ i j z s. absurd (s (eqb-true _ _ (x .1)));
+        flat = λ i. i;
+        undoing = λ i. i;
+        behind = λ i. absurd (omega tests);
+        worn = λ i z s. (refl, refl);
+      }) (λ e₂.
+      by (RollbackAsked r) _ (λ e k. let x = turn (r .phase .number) 9 in record {
+        empty = λ i j z. (refl, x .goes i j);
+        some = λ i j z. absurd (omega tests);
+        flat = x .flat;
+        undoing = λ i. x .stays (omega arith) ∙ i;
+        behind = λ i. absurd (omega tests);
+        worn = λ i z. absurd (omega tests);
+      }) (λ e₃ k. let x = turn (r .phase .number) 8 in record {
+        empty = λ i j z. absurd (omega tests);
+        some = λ i j z s. (refl, x .goes i j);
+        flat = x .flat;
+        undoing = λ i. x .stays (omega arith) ∙ i;
+        behind = λ i. absurd (omega tests);
+        worn = λ i z s. clash _ (join (lt-ltb _ _ z) (eq-eqb _ _ s)) e₂;
+      }))))

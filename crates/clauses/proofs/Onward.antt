@@ -1,30 +1,22 @@
 -- A structure report that is taken goes on by one phase; and which phases have a successor. Assumes nothing.
-use Prim.Native.Nat.{ℕ, _≤_, _<_}
-use mathlib.Core.Path.{_≡_, refl, sym, _∙_, ap}
-use mathlib.Core.Bool.{Bool, true, false}
-use mathlib.Core.Logic.{_≢_}
+use Prim.Native.Nat.{ℕ, _+_, _≤_, _<_}
+use mathlib.Core.{Path._≡_, Path.refl, Path.sym, Path._∙_, Path.ap, Bool.Bool, Bool.true, Bool.false, Logic._≢_}
 use native.Mathlib.Omega.{arith}
 use lib.Dec.{eqb}
 use borrow.Author.Tests.{eqb-true}
 use Rattle.choice.specs.Pick.{pick, _or_}
 use Rattle.choice.proofs.Tests.{either, neither}
-use Rattle.phases.specs.Phases.{hasSuccessor, successor, boundary}
-use Rattle.phases.specs.declared.Next.the-variants.{To}
-use Rattle.record.specs.Live.{isLive}
+use Rattle.phases.specs.{Phases.hasSuccessor, Phases.successor, Phases.boundary, declared.Next.the-variants.To}
+use Rattle.record.specs.{Fields.top, Fields.spent, Fields.withPlace, Live.isLive}
 use Rattle.record.specs.Live as Tickets
-use Rattle.record.specs.Fields.{top, spent}
-use Rattle.record.specs.declared.Record.{Record}
-use Rattle.record.specs.declared.Live.{Live}
+use Rattle.record.specs.declared.{Record.Record, Live.Live}
 use Rattle.wholeness.specs.Whole.{whole}
-use Rattle.step_reports.specs.Done.{advanced}
-use Rattle.step_reports.specs.Reports.{storing}
-use Rattle.demand_steps.proofs.Leaf.{Apart}
-use Rattle.demand_steps.proofs.Facts.{Calm, tests, byCase}
-use Rattle.demand_steps.proofs.Facts.Calm.{on, off}
-use Rattle.demand_steps.proofs.Reading.{whole-facts, apart-of}
-use Rattle.demand_steps.proofs.Testing.{ranges, right}
-use Rattle.demand_steps.proofs.Wholeness.{left, successor-test}
-use Rattle.demand_steps.proofs.Tickets.{onStructure}
+use Rattle.step_reports.specs.{Done.advanced, Reports.storing}
+use Rattle.demand_steps.proofs.{Leaf.Apart, Facts.Calm, Facts.Calm.on, Facts.Calm.off, Facts.tests, Facts.byCase, Reading.whole-facts, Reading.apart-of, Testing.ranges, Testing.right}
+use Rattle.demand_steps.proofs.{Wholeness.left, Wholeness.successor-test, Tickets.onStructure, Moves.goes-up, Moves.goes-down}
+use Rattle.clauses.specs.Structure.{Stepping, Advances}
+use Rattle.clauses.proofs.Splitting.{nope}
+
 use Rattle.demand_steps.proofs.Moves.{goes-up, goes-down}
 use Rattle.clauses.specs.Structure.{Stepping, Advances}
 use Rattle.clauses.proofs.Splitting.{nope}
@@ -72,32 +64,26 @@ module _ (r : Record) (m : r .revision ≤ top) (w : whole r ≡ true) (t : ℕ)
   pub succeeds : hasSuccessor (r .phase .number) ≡ true
   succeeds = successor-test _ (ranges (whole-facts r m w .stage) .bound) apart
 
+  -- the two counts, by the phase
+  placed : (c o f b : ℕ) → (r .phase .number ≤ 6 → (f ≡ r .forward + 1) × (b ≡ r .back)) → (6 < r .phase .number → (f ≡ r .forward) × (b ≡ r .back + 1)) →
+      Advances r (withPlace (r .phase .number + 1) f b (spent (storing c o r)))
+  placed c o f b up down = record {
+    phase = refl;
+    forward = λ i. up i .0;
+    forward-stays = λ i. down i .0;
+    back = λ i. down i .1;
+    back-stays = λ i. up i .1;
+    spent = refl;
+    batch = search;
+    staged = refl;
+    accepted = refl;
+    version = refl;
+  }
+
   pub onwards : (c o : ℕ) → Advances r (advanced (spent (storing c o r)))
-  onwards c o =
-      let q = spent (storing c o r) in
-      byCase 6 (r .phase .number) (λ (j : 6 < r .phase .number). rw (goes-down q succeeds j) record {
-        phase = refl;
-        forward = λ i. absurd (omega arith);
-        forward-stays = λ i. refl;
-        back = λ i. refl;
-        back-stays = λ i. absurd (omega arith);
-        spent = refl;
-        batch = search;
-        staged = refl;
-        accepted = refl;
-        version = refl;
-      }) (λ (j : r .phase .number ≤ 6). rw (goes-up q succeeds j) record {
-        phase = refl;
-        forward = λ i. refl;
-        forward-stays = λ i. absurd (omega arith);
-        back = λ i. absurd (omega arith);
-        back-stays = λ i. refl;
-        spent = refl;
-        batch = search;
-        staged = refl;
-        accepted = refl;
-        version = refl;
-      })
+  onwards c o = let q = spent (storing c o r) in
+      byCase 6 (r .phase .number) (λ (j : 6 < r .phase .number). rw (goes-down q succeeds j) (placed c o _ _ (λ i. absurd (omega arith)) (λ i. (refl, refl))))
+      (λ (j : r .phase .number ≤ 6). rw (goes-up q succeeds j) (placed c o _ _ (λ i. (refl, refl)) (λ i. absurd (omega arith))))
 
   pub stepping-on : {s : Record} → Advances r s → Stepping r s
   unfolding successor pick

@@ -1,98 +1,81 @@
 -- `new` and the recorder's `new` and `new_in`, clause by clause. Assumes nothing.
 use Prim.Native.Nat.{ℕ, zero, suc, _-_, _≤_}
-use mathlib.Core.Path.{_≡_, refl, sym}
-use mathlib.Core.Bool.{Bool, true}
-use mathlib.Core.List.{List, [], _∷_}
+use mathlib.Core.{Path._≡_, Path.refl, Path.sym, Path.ap, Bool.Bool, Bool.true, Bool.false, Bool.not, List.List, List.[], List._∷_}
 use native.Mathlib.Omega.{arith}
 use lib.ListN.{length, getD, replicate}
-use borrow.Author.Tests.{ltb-false, not-true, not-false}
-use Rattle.choice.proofs.Picks.{no, picked}
-use Rattle.choice.proofs.Tests.{tests, both}
+use borrow.Author.Tests.{ltb-false, le-ltb, not-false}
+use Rattle.choice.proofs.{Picks.no, Tests.both}
 use Rattle.areas.specs.Areas.{areaSize, sized, copied, long}
-use Rattle.record.specs.Answers.{Told}
-use Rattle.record.specs.Leaves.{moving}
-use Rattle.record.specs.Fields.{top}
+use Rattle.record.specs.{Classes.Class.performed, Classes.refused, Answers.Told, Answers.answer, Leaves.moving, Given.at, Fields.top}
+use Rattle.record.specs.declared.{Opening.Opening, Answer.the-variants.Done, Was.the-variants.Nothing}
 use Rattle.wholeness.specs.Whole.{whole}
-use Rattle.step_begins.specs.Opening.{opening, openStep}
+use Rattle.step_begins.specs.Opening.{opening, openBars, openStep}
 use Rattle.step_ends.specs.Ending.{idleAt}
 use Rattle.log.specs.Log.{headWords, blank}
 use Rattle.events.proofs.Soundness.{blank-is}
-use Rattle.noting.specs.Recorded.{withLog}
+use Rattle.noting.specs.{Recorded.withLog, Through.leavesThrough}
 use Rattle.calls.specs.Lending.{Lending, leavesOf, unopened}
-use Rattle.noting.specs.Through.{leavesThrough}
-use Rattle.demand_steps.proofs.Wholeness.{whole-test}
-use Rattle.demand_steps.proofs.Advancing.{idles}
-use Rattle.demand_chains.proofs.Granting.{clash}
-use Rattle.clauses.specs.Staging.{OpenClauses}
-use Rattle.clauses.specs.Lending.{Opens}
-use Rattle.clauses.specs.Recording.{OpenRecorded}
-use Rattle.clauses.proofs.Splitting.{performed-real}
+use Rattle.demand_steps.proofs.{Wholeness.whole-test, Advancing.idles}
+use Rattle.clauses.specs.{Staging.OpenClauses, Lending.Opens, Recording.OpenRecorded}
+use Rattle.clauses.proofs.Splitting.{Decided, decide, decides, only, keeps}
 use Rattle.clauses.proofs.Lendings.{payload-copied}
 
 -- an opening is whole
-opening-whole : (v s l : ℕ) → v ≤ top → l ≤ areaSize → whole (opening v s l) ≡ true
+opening-whole : (given : Opening) (l : ℕ) → given .revision ≤ top → l ≤ areaSize → whole (opening given l) ≡ true
 unfolding opening idleAt
-opening-whole v s l m h = whole-test (idles v l (opening v s l) m h)
+opening-whole given l m h = whole-test (idles (given .revision) l (opening given l) m h)
 
-pub open-clauses : (sizes : Bool) (v s l : ℕ) → v ≤ top → OpenClauses sizes v s l (openStep sizes v s l)
-unfolding openStep opening long
-open-clauses sizes v s l m =
-    let bad = opening-whole 0 0 0 (omega arith) (omega arith) in
-    picked (OpenClauses sizes v s l) _ (λ e. record {
-      fits = (λ i. absurd (omega arith), λ x. clash _ (x .0) (not-true _ e));
-      c107 = bad;
-      c108 = λ i. absurd (omega arith);
-      c109 = λ i. absurd (omega arith);
-      c110 = refl;
-      c111 = refl;
-      c111-record = λ i. absurd (omega arith);
-    }) (λ e₁.
-    picked (OpenClauses sizes v s l) _ (λ e. record {
-      fits = (λ i. absurd (omega arith), λ x. absurd (omega (tests, x .1)));
-      c107 = bad;
-      c108 = λ i. absurd (omega arith);
-      c109 = λ i. absurd (omega arith);
-      c110 = refl;
-      c111 = refl;
-      c111-record = λ i. absurd (omega arith);
-    }) (λ e₂. record {
-      fits = (λ i. (not-false _ e₁, ltb-false _ _ e₂), λ x. refl);
-      c107 = opening-whole v s l m (ltb-false _ _ e₂);
-      c108 = λ i. refl;
-      c109 = λ i. refl;
-      c110 = refl;
-      c111 = refl;
-      c111-record = λ i. refl;
-    }))
+module _ (given : Opening) (m : given .revision ≤ top) where
+  module _ (sizes : Bool) (l : ℕ) where
+    opened : Decided unopened (λ c. refused c ≡ true) (answer (Done Nothing) (opening given l)) (openBars sizes l) (openStep sizes given l)
+    unfolding openStep
+    opened = decide (openBars sizes l) (λ e. refl, λ e₁. (λ e. refl, λ e₂. refl))
 
--- what an opening that is not refused moves
-moved : (t : Told) (lent after : List (List ℕ)) → t .number ≡ 0 → moving t lent after .lent ≡ after
-moved t lent after h = sym (no _ (performed-real h) refl)
+    wf : {t : Told} → Decided unopened (λ c. refused c ≡ true) (answer (Done Nothing) (opening given l)) (openBars sizes l) t → whole (t .state) ≡ true
+    unfolding long
+    wf (Decided.refuses n e) = opening-whole (at 0 0) 0 (omega arith) (omega arith)
+    wf (Decided.does x) = opening-whole given l m (ltb-false _ _ (x .1 .0))
 
-module _ (v s : ℕ) (m : v ≤ top) (a given : List ℕ) where
-  pub open-areas : leavesOf unopened (Lending.openAt v s a given) .told .number ≡ 0 → Opens given (leavesOf unopened (Lending.openAt v s a given))
-  open-areas h =
-      let x = open-clauses (sized a) v s (length given) m in
-      let y = x .fits .0 h in
-      record { c108 = rw (x .c108 h, moved (openStep (sized a) v s (length given)) (a ∷ []) (copied given a ∷ []) h) (payload-copied given a (y .0) (y .1)) }
+    pub open-clauses : OpenClauses sizes given l (openStep sizes given l)
+    unfolding opening long
+    open-clauses = record {
+      fits = decides opened refl (λ x. (not-false _ (x .0), ltb-false _ _ (x .1 .0))) (λ y. (ap not (y .0), (le-ltb _ _ (y .1), refl)));
+      c107 = wf opened;
+      c108 = only (λ t. t .state .accepted ≡ l) opened (λ x. refl);
+      c109 = only (λ t. t .state .revision ≡ given .revision) opened (λ x. refl);
+      c110 = keeps (λ s. s .staged ≡ false) opened refl refl;
+      c111 = keeps (λ s. s .entries ≡ 0) opened refl refl;
+      c111-record = only (λ t. t .state ≡ opening given l) opened (λ x. refl);
+    }
 
-  -- every word that an opening zeroes is read as zero
-  zeros : (n i : ℕ) → _≡_ {A = ℕ} (getD (replicate n 0) i 0) 0
-  zeros zero i = refl
-  zeros (suc n) zero = refl
-  zeros (suc n) (suc i) = zeros n i
+  -- what an opening that is not refused moves
+  moved : (t : Told) (lent after : List (List ℕ)) → t .class ≡ performed → moving t lent after .lent ≡ after
+  moved t lent after h = sym (no _ (ap refused h) refl)
 
-  pub open-recorded : (log : List ℕ) → leavesThrough unopened log (Lending.openAt v s a given) .told .number ≡ 0 → OpenRecorded v given (leavesThrough unopened log (Lending.openAt v s a given))
-  unfolding leavesThrough withLog
-  open-recorded log h =
-      let t = openStep (withLog (sized a) log .sized) v s (length given) in
-      let x = open-clauses (withLog (sized a) log .sized) v s (length given) m in
-      let y = x .fits .0 h in
-      let z = both (y .0) in
-      rw (moved t (log ∷ a ∷ []) (blank log ∷ copied given a ∷ []) h, blank-is log (z .1)) record {
-        c272 = rw (x .c108 h) (payload-copied given a (z .0) (y .1));
-        c273 = x .c109 h;
-        c274 = x .c110;
-        c275 = refl;
-        c275-words = zeros (length log - headWords);
-      }
+  module _ (a payload : List ℕ) where
+    pub open-areas : leavesOf unopened (Lending.openAt given a payload) .told .class ≡ performed → Opens payload (leavesOf unopened (Lending.openAt given a payload))
+    open-areas h =
+        let x = open-clauses (sized a) (length payload) in
+        let y = x .fits .0 h in
+        record { c108 = rw (x .c108 h, moved (openStep (sized a) given (length payload)) (a ∷ []) (copied payload a ∷ []) h) (payload-copied payload a (y .0) (y .1)) }
+
+    -- every word that an opening zeroes is read as zero
+    zeros : (n i : ℕ) → _≡_ {A = ℕ} (getD (replicate n 0) i 0) 0
+    zeros zero i = refl
+    zeros (suc n) zero = refl
+    zeros (suc n) (suc i) = zeros n i
+
+    pub open-recorded : (log : List ℕ) → leavesThrough unopened log (Lending.openAt given a payload) .told .class ≡ performed → OpenRecorded given payload (leavesThrough unopened log (Lending.openAt given a payload))
+    unfolding leavesThrough withLog
+    open-recorded log h =
+        let s = withLog (sized a) log .sized in
+        let x = open-clauses s (length payload) in
+        let y = x .fits .0 h in
+        let z = both (y .0) in
+        rw (moved (openStep s given (length payload)) (log ∷ a ∷ []) (blank log ∷ copied payload a ∷ []) h, blank-is log (z .1)) record {
+          c272 = rw (x .c108 h) (payload-copied payload a (z .0) (y .1));
+          c273 = x .c109 h;
+          c274 = x .c110;
+          c275 = refl;
+          c275-words = zeros (length log - headWords);
+        }

@@ -1,95 +1,115 @@
--- The recorder, clause by clause: each of its twelve calls, against the same call without a log. Assumes nothing.
-use Prim.Native.Nat.{ℕ, _/_}
-use mathlib.Core.Path.{_≡_, refl}
-use mathlib.Core.Bool.{true, false}
-use mathlib.Core.List.{List, [], _∷_}
-use lib.ListN.{length}
+-- The recorder, clause by clause: what it does about any step, and so each of its twelve calls against the same call without a log.
+-- Through a log whose size and head are right, and unless the answer is 12, the clauses of the call below are carried over. Assumes
+-- nothing.
+use Prim.Native.Nat.{ℕ, _≤_}
+use mathlib.Core.{Path._≡_, Path.refl, Path.sym, Path._∙_, Path.ap, Path.subst, Bool.Bool, Bool.true, Bool.false, Bool.not, List.List, List._∷_, Logic._≢_}
+use borrow.Author.Tests.{not-true, not-false}
 use Rattle.choice.specs.Pick.{pick, _and_, _or_}
-use Rattle.areas.specs.Areas.{sized}
-use Rattle.batch.specs.Batch.{tableSized, paired}
-use Rattle.record.specs.Leaves.{moving}
-use Rattle.record.specs.declared.Record.{Record}
-use Rattle.record.specs.declared.Outcome.{Outcome}
-use Rattle.wholeness.specs.Gates.{gateOf, gated}
-use Rattle.step_reports.specs.Reports.{behind, reportGate}
-use Rattle.log.specs.Kinds as kinds
-use Rattle.calls.specs.Calls.{step, Work}
-use Rattle.calls.specs.Calls.Work.{structure, update, rollback}
-use Rattle.calls.specs.Calls.Report.{structured, updated, rolledBack}
-use Rattle.calls.specs.Calls.Call.{begin, ask, report, commit, recover, recoverRetained, refresh}
-use Rattle.calls.specs.Lending.{Stored, Lending, leavesOf}
-use Rattle.record.specs.Classes.{stepWritten, callWritten}
-use Rattle.calls.specs.Kinds.{kindOf, writtenAs}
-use Rattle.noting.specs.Through.{leavesThrough}
-use Rattle.clauses.specs.Recording.{Through}
-use Rattle.clauses.proofs.Recordings.{joined}
+use Rattle.choice.proofs.{Picks.yes, Picks.no, Picks.picked, Tests.both, Tests.never}
+use Rattle.record.specs.Classes.{Class, refused, entered, callWritten, Class.performed, Class.refusal, Class.stepping}
+use Rattle.record.specs.{Answers.Told, Answers.refuse, Leaves.Leaves, Leaves.leaves, Leaves.moving, Fields.top}
+use Rattle.record.specs.declared.{Record.Record, Refusal.Refusal, Refusal.the-variants.BadArea, Refusal.the-variants.Damaged, Refusal.the-variants.LogFull}
+use Rattle.wholeness.specs.{Whole.whole, Gates.gateOf, Gates.gated}
+use Rattle.log.specs.Log.{sound, appended}
+use Rattle.noting.specs.{Recorded.withLog, Recorded.recorded, Through.inner, Through.logs, Through.leavesThrough}
+use Rattle.calls.specs.{Calls.Call, Calls.AnyCall, Calls.stepOf, Calls.AnyCall.calls, Kinds.kindOf, Kinds.writtenAs, Lending.Lending, Lending.callOf, Lending.fits, Lending.lent, Lending.moved}
+use Rattle.demand_refusals.{specs.Refusals.returned, proofs.ExactRefusals.refusal-returns}
+use Rattle.demand_steps.proofs.Testing.{not-yes}
+use Rattle.clauses.specs.{Clauses.Clauses, Lending.Lends, Lending.unrecorded, Recording.unlogged, Recording.Recorded, Recording.Through, Recording.Carries}
+use Rattle.clauses.proofs.Splitting.{clash}
+use Rattle.clauses.proofs.Lendings.{Gates, Gates.behind, Gates.alone, gates, lends}
+use Rattle.clauses.proofs.Clauses.{clauses}
+
+-- any step that a refusal leaves as it was
+records : (written : Class → Bool) (kind : ℕ) (t : Told) (r : Record) (log : List ℕ) (lent moved : List (List ℕ)) → (refused (t .class) ≡ true → t .state ≡ r) →
+    Recorded written kind r log lent (moving t lent moved) (recorded written kind t r log lent moved)
+unfolding recorded appended
+records written kind t r log lent moved f =
+    picked (Recorded written kind r log lent (moving t lent moved)) _ (λ e. record {
+      c264 = λ n. refl;
+      no-room = λ i. clash _ i (not-true _ e);
+      c267 = λ i. clash _ i (not-true _ e);
+      unwritten = λ i. refl;
+      c305 = λ i. (f i, sym (yes _ i refl));
+      c305-log = λ i. refl;
+    }) (λ e₁.
+    picked (Recorded written kind r log lent (moving t lent moved)) _ (λ e. record {
+      c264 = λ n. absurd (n refl);
+      no-room = λ i j. refl;
+      c267 = λ i j. clash _ e j;
+      unwritten = λ i. refl;
+      c305 = λ i. (refl, refl);
+      c305-log = λ i. refl;
+    }) (λ e₂. record {
+      c264 = λ n. refl;
+      no-room = λ i j. clash _ j e₂;
+      c267 = λ i j s. sym (no _ (ap not s) (no _ e₂ refl));
+      unwritten = λ i. clash _ (not-false _ e₁) i;
+      c305 = λ i. (f i, sym (yes _ i refl));
+      c305-log = λ i. clash _ (not-false _ e₁) i;
+    }))
+
+-- in the calls that are written only where they answer 0, no refusal is
+pub refused-unwritten : (c : Class) → refused c ≡ true → callWritten c ≡ false
+refused-unwritten performed e = never (sym e)
+refused-unwritten (refusal why) e = refl
+refused-unwritten (stepping s) e = refl
 
 -- neither 6 nor 7 is written
-unwritten-steps : (stepWritten 6 ≡ false) × (stepWritten 7 ≡ false)
-unfolding _and_ _or_
-unwritten-steps = (refl, refl)
+unwritten : (kind : ℕ) → (writtenAs kind (refusal BadArea) ≡ false) × (writtenAs kind (refusal Damaged) ≡ false)
+unfolding writtenAs entered _or_
+unwritten kind = (picked (λ b. b ≡ false) _ (λ e. refl) (λ e. picked (λ b. b ≡ false) _ (λ i. refl) (λ i. refl)), picked (λ b. b ≡ false) _ (λ e. refl) (λ e. picked (λ b. b ≡ false) _ (λ i. refl) (λ i. refl)))
 
-unwritten-calls : (callWritten 6 ≡ false) × (callWritten 7 ≡ false)
-unwritten-calls = (refl, refl)
+-- what joins the log has the right sizes itself
+pub fit : (fits : Bool) (log : List ℕ) → withLog fits log .sized ≡ true → fits ≡ true
+unfolding withLog
+fit fits log h = both h .0
 
-module _ (r : Record) (log : List ℕ) where
-  pub begin-recorded : (c o t new old pairs : List ℕ) →
-      Through callWritten kinds.begin r log (sized c and sized o and tableSized t and paired pairs) (c ∷ o ∷ t ∷ [])
-      (leavesOf r (Lending.begin false c o t new old pairs)) (leavesThrough r log (Lending.begin false c o t new old pairs))
-  unfolding leavesThrough kindOf writtenAs gateOf gated pick _and_
-  begin-recorded c o t new old pairs = joined callWritten kinds.begin r log (begin false (length new) (length old) (length pairs / 2)) _ _ _ unwritten-calls (λ b. refl) (λ b e. rw e)
+module _ (r : Record) (log : List ℕ) (c : Lending true) {d : Call} (e : callOf c ≡ calls d) where
+  abbrev through : Told → Leaves
+  through t = recorded (writtenAs (kindOf d)) (kindOf d) t r log (lent c) (moved r c)
 
-  pub begin-structural-recorded : (c o t new old pairs : List ℕ) →
-      Through callWritten kinds.beginStructural r log (sized c and sized o and tableSized t and paired pairs) (c ∷ o ∷ t ∷ [])
-      (leavesOf r (Lending.begin true c o t new old pairs)) (leavesThrough r log (Lending.begin true c o t new old pairs))
-  unfolding leavesThrough kindOf writtenAs gateOf gated pick _and_
-  begin-structural-recorded c o t new old pairs = joined callWritten kinds.beginStructural r log (begin true (length new) (length old) (length pairs / 2)) _ _ _ unwritten-calls (λ b. refl) (λ b e. rw e)
+  -- what it leaves, by what its step tells
+  leaves-by : {t : Told} → inner r log c ≡ t → leavesThrough r log c ≡ through t
+  unfolding leavesThrough
+  leaves-by {t} q = ap (λ (u : Told). logs (callOf c) u r log (lent c) (moved r c)) q ∙ ap (λ (a : AnyCall). logs a t r log (lent c) (moved r c)) e
 
-  pub ask-structure-recorded : Through stepWritten kinds.askStructure r log true [] (moving (step r (ask structure)) [] []) (leavesThrough r log (Lending.ask Work.structure))
-  unfolding leavesThrough kindOf writtenAs gateOf gated pick _and_
-  ask-structure-recorded = joined stepWritten kinds.askStructure r log (ask structure) _ _ _ unwritten-steps (λ b. refl) (λ b e. rw e)
+  -- a refusal that is not written leaves all as it was
+  silent : (why : Refusal) → writtenAs (kindOf d) (refusal why) ≡ false → through (refuse why r) ≡ leaves (refuse why r) (log ∷ lent c)
+  unfolding recorded
+  silent why n = sym (yes _ (not-yes _ n) (ap (λ (l : List (List ℕ)). leaves (refuse why r) (log ∷ l)) (yes _ refl refl)))
 
-  pub ask-update-recorded : Through stepWritten kinds.askUpdate r log true [] (moving (step r (ask update)) [] []) (leavesThrough r log (Lending.ask Work.update))
-  unfolding leavesThrough kindOf writtenAs gateOf gated pick _and_
-  ask-update-recorded = joined stepWritten kinds.askUpdate r log (ask update) _ _ _ unwritten-steps (λ b. refl) (λ b e. rw e)
+  -- the two tests of the gate
+  bad-size : Gates r c → withLog (fits c) log .sized ≡ false → inner r log c ≡ refuse BadArea r
+  unfolding gateOf gated pick
+  bad-size (behind own is) z = is _ _ ∙ rw z
+  bad-size (alone s l) z = never l
 
-  pub ask-rollback-recorded : Through stepWritten kinds.askRollback r log true [] (moving (step r (ask rollback)) [] []) (leavesThrough r log (Lending.ask Work.rollback))
-  unfolding leavesThrough kindOf writtenAs gateOf gated pick _and_
-  ask-rollback-recorded = joined stepWritten kinds.askRollback r log (ask rollback) _ _ _ unwritten-steps (λ b. refl) (λ b e. rw e)
+  bad-head : Gates r c → withLog (fits c) log .sized ≡ true → sound log and whole r ≡ false → inner r log c ≡ refuse Damaged r
+  unfolding withLog gateOf gated pick
+  bad-head (behind own is) z f = is _ _ ∙ rw (z, f)
+  bad-head (alone s l) z f = never l
 
-  pub report-structure-recorded : (c o : List ℕ) (k : ℕ) (x : Outcome) (new old : List ℕ) →
-      Through stepWritten kinds.reportStructure r log (sized c and sized o) (c ∷ o ∷ []) (leavesOf r (Lending.report (Stored.structured c o new old) k x))
-      (leavesThrough r log (Lending.report (Stored.structured c o new old) k x))
-  unfolding leavesThrough kindOf writtenAs gateOf gated reportGate behind pick _and_
-  report-structure-recorded c o k x new old = joined stepWritten kinds.reportStructure r log (report (structured (length new) (length old)) k x) _ _ _ unwritten-steps (λ b. refl) (λ b e. rw e)
+  equal : refused (stepOf (fits c) true r (callOf c) .class) ≡ true → stepOf (fits c) true r (callOf c) .state ≡ r
+  unfolding returned
+  equal f = refusal-returns (fits c) true r (callOf c) f ∙ ap (returned r) e
 
-  pub report-update-recorded : (t : List ℕ) (k : ℕ) (x : Outcome) (value : ℕ) →
-      Through stepWritten kinds.reportUpdate r log (tableSized t) (t ∷ []) (leavesOf r (Lending.report (Stored.updated t value) k x)) (leavesThrough r log (Lending.report (Stored.updated t value) k x))
-  unfolding leavesThrough kindOf writtenAs gateOf gated reportGate behind pick _and_
-  report-update-recorded t k x value = joined stepWritten kinds.reportUpdate r log (report updated k x) _ _ _ unwritten-steps (λ b. refl) (λ b e. rw e)
+  at-size : withLog (fits c) log .sized ≡ true → sound log ≡ true → inner r log c ≡ stepOf (fits c) true r (callOf c)
+  unfolding withLog
+  at-size z h = ap (λ (b : Bool). stepOf (withLog (fits c) log .sized) b r (callOf c)) h ∙ ap (λ (a : Bool). stepOf a true r (callOf c)) (z ∙ sym (fit (fits c) log z))
 
-  pub report-rollback-recorded : (t : List ℕ) (k : ℕ) (x : Outcome) (value : ℕ) →
-      Through stepWritten kinds.reportRollback r log (tableSized t) (t ∷ []) (leavesOf r (Lending.report (Stored.rolledBack t value) k x)) (leavesThrough r log (Lending.report (Stored.rolledBack t value) k x))
-  unfolding leavesThrough kindOf writtenAs gateOf gated reportGate behind pick _and_
-  report-rollback-recorded t k x value = joined stepWritten kinds.reportRollback r log (report rolledBack k x) _ _ _ unwritten-steps (λ b. refl) (λ b e. rw e)
+  pub recorded-clauses : Through r log c d (leavesThrough r log c)
+  recorded-clauses = record {
+    bad = λ z. leaves-by (bad-size (gates r c e) z) ∙ silent BadArea (unwritten (kindOf d) .0);
+    damaged = λ z f. leaves-by (bad-head (gates r c e) z f) ∙ silent Damaged (unwritten (kindOf d) .1);
+    ready = λ z h. subst (Recorded (writtenAs (kindOf d)) (kindOf d) r log (lent c) (unrecorded r c)) (sym (leaves-by (at-size z h))) (records _ _ _ r log (lent c) (moved r c) equal);
+  }
 
-  pub commit-recorded : (a c : List ℕ) →
-      Through callWritten kinds.commit r log (sized a and sized c) (a ∷ c ∷ []) (leavesOf r (Lending.commit a c)) (leavesThrough r log (Lending.commit a c))
-  unfolding leavesThrough kindOf writtenAs gateOf gated pick _and_
-  commit-recorded a c = joined callWritten kinds.commit r log commit _ _ _ unwritten-calls (λ b. refl) (λ b e. rw e)
+  module _ (z : withLog (fits c) log .sized ≡ true) (h : sound log ≡ true) (n : leavesThrough r log c .told .class ≢ refusal LogFull) where
+    -- what holds of a call without a log holds through one, the log aside
+    pub carried-over : (P : Leaves → Type 0) → P (unrecorded r c) → P (unlogged (leavesThrough r log c))
+    carried-over P p = subst P (sym (recorded-clauses .ready z h .c264 n)) p
 
-  pub recover-recorded : (a x : List ℕ) (n : ℕ) →
-      Through callWritten kinds.recover r log (sized a and sized x) (a ∷ x ∷ []) (leavesOf r (Lending.recover a x n)) (leavesThrough r log (Lending.recover a x n))
-  unfolding leavesThrough kindOf writtenAs gateOf gated pick _and_
-  recover-recorded a x n = joined callWritten kinds.recover r log (recover n) _ _ _ unwritten-calls (λ b. refl) (λ b e. rw e)
-
-  pub recover-retained-recorded : (a o x : List ℕ) →
-      Through callWritten kinds.recoverRetained r log (sized a and sized o and sized x) (a ∷ o ∷ x ∷ []) (leavesOf r (Lending.recoverRetained a o x))
-      (leavesThrough r log (Lending.recoverRetained a o x))
-  unfolding leavesThrough kindOf writtenAs gateOf gated pick _and_
-  recover-retained-recorded a o x = joined callWritten kinds.recoverRetained r log recoverRetained _ _ _ unwritten-calls (λ b. refl) (λ b e. rw e)
-
-  pub refresh-recorded : (a x : List ℕ) (n : ℕ) →
-      Through callWritten kinds.refresh r log (sized a and sized x) (a ∷ x ∷ []) (leavesOf r (Lending.refresh a x n)) (leavesThrough r log (Lending.refresh a x n))
-  unfolding leavesThrough kindOf writtenAs gateOf gated pick _and_
-  refresh-recorded a x n = joined callWritten kinds.refresh r log (refresh n) _ _ _ unwritten-calls (λ b. refl) (λ b e. rw e)
+    pub carried : r .revision ≤ top → whole r ≡ true → Carries r c d (leavesThrough r log c)
+    carried m w = let x = lends r c e in
+        record { told = carried-over (λ v. Clauses r d (v .told)) (rw (x .tells (fit (fits c) log z)) (clauses r m w d)); lends = carried-over (Lends r c d) x }

@@ -1,104 +1,82 @@
--- `begin`, `begin_structural`, `pending_mut` and `work`, clause by clause. Assumes nothing.
+-- `begin`, `begin_structural`, `pending_mut` and `work`, clause by clause, and which error a begin gives. Assumes nothing.
 use Prim.Native.Nat.{ℕ, _≤_}
-use mathlib.Core.Path.{_≡_, refl}
-use mathlib.Core.Bool.{Bool, true, false}
-use native.Mathlib.Omega.{arith}
-use borrow.Author.Tests.{eqb-true, ltb-false, not-true}
+use mathlib.Core.{Path._≡_, Path.refl, Path.ap, Bool.Bool, Bool.true, Bool.false}
+use borrow.Author.Tests.{eqb-true, ne-eqb, ltb-true, ltb-false, le-ltb, not-true}
 use Rattle.choice.specs.Pick.{pick}
-use Rattle.choice.proofs.Picks.{yes, no}
-use Rattle.choice.proofs.Tests.{tests, never, eqb-ne}
-use Rattle.phases.specs.Phases.{none, remove}
-use Rattle.record.specs.Classes.{refusalNumber}
-use Rattle.record.specs.Answers.{Told, answer, refuse}
-use Rattle.record.specs.Fields.{top, withLengths}
-use Rattle.record.specs.declared.Record.{Record}
-use Rattle.record.specs.declared.Answer.the-variants.{Done}
-use Rattle.record.specs.declared.Was.the-variants.{Nothing}
-use Rattle.record.specs.declared.Refusal.{Refusal}
-use Rattle.record.specs.declared.Refusal.the-variants.{Pending, Idle, Capacity, TooLong, TooMany}
+use Rattle.choice.proofs.{Picks.yes, Picks.no, Tests.never, Tests.eqb-ne}
+use Rattle.record.specs.Classes.{Class, Class.refusal}
+use Rattle.record.specs.{Answers.Told, Answers.answer, Fields.top, Fields.withLengths}
+use Rattle.record.specs.declared.{Record.Record, Beginning.Beginning, Answer.the-variants.Done, Was.the-variants.Nothing}
+use Rattle.record.specs.declared.Refusal.the-variants.{Pending, Idle, Capacity}
 use Rattle.wholeness.specs.Whole.{whole}
-use Rattle.step_begins.specs.Beginning.{firstPhase, begun, beginOwn, editOwn}
-use Rattle.calls.specs.Calls.{step}
-use Rattle.calls.specs.Calls.Call.{begin, edit}
+use Rattle.wholeness.proofs.Passing.{Clear}
+use Rattle.step_begins.specs.Beginning.{firstPhase, begun, beginBars, beginOwn, editBars, editOwn}
+use Rattle.calls.specs.Calls.{step, Call.begin, Call.edit}
 use Rattle.demand_steps.proofs.Own.{own}
-use Rattle.demand_steps.proofs.Classify.{first, first-structural}
-use Rattle.demand_chains.proofs.Granting.{clash}
-use Rattle.clauses.specs.Keeping.{gained}
-use Rattle.clauses.specs.Staging.{CanBegin, BeginClauses, EditClauses}
-use Rattle.clauses.proofs.Splitting.{Kept, refusal-real, performed-fine, too-long, fitting, by, on-step}
+use Rattle.clauses.specs.Keeping.{gained, SameBatch}
+use Rattle.clauses.specs.Staging.{CanBegin, Begun, BeginClauses, EditClauses}
+use Rattle.clauses.specs.Gaps.{BeginAnswer, BeginAnswer.pending, BeginAnswer.capacity, BeginAnswer.tooLong, BeginAnswer.tooMany, BeginAnswer.begins}
+use Rattle.clauses.proofs.Splitting.{fitting, fitted, differ, bar, Each, Decided, Decided.refuses, Decided.does, decides, only, denied, keeps, still-whole, settled}
 
-module _ (r : Record) (c o n : ℕ) where
-  module _ (p : ℕ) where
-    abbrev Clauses : Told → Type 0
-    Clauses = BeginClauses p r c o n
+module _ (r : Record) (b : Beginning) where
+  abbrev Error : Class → Type 0
+  Error c = BeginAnswer r b c × (gained c ≡ false → c ≡ refusal (pick (r .staged) Pending Capacity))
 
-    refuses : (why : Refusal) → (CanBegin r c o n → ⊥) → (gained (refusalNumber why) ≡ false → refusalNumber why ≡ pick (r .staged) 1 3) → Kept Clauses (refuse why r)
-    refuses why f g k = record {
-      framed = search;
-      c147 = (λ i. absurd (refusal-real why i), λ x. absurd (f x));
-      ok = λ i. absurd (refusal-real why i);
-      c154 = λ i. refl;
-      c157 = λ i. g;
-    }
+  errors : Each Error (beginBars r b)
+  errors =
+      bar (λ e. (pending e, λ g. ap refusal (yes _ e refl))) (λ e₁.
+      bar (λ e. (capacity e₁ (eqb-true _ _ e), λ g. ap refusal (no _ e₁ refl))) (λ e₂.
+      bar (λ e. (tooLong e₁ (eqb-ne _ _ e₂) e, never)) (λ e₃. let x = fitting _ _ e₃ in
+      bar (λ e. (tooMany e₁ (eqb-ne _ _ e₂) (x .0) (x .1) (ltb-true _ _ e), never)) (λ e₄. refl))))
 
-    starts : {q : ℕ} → q ≡ p → CanBegin r c o n → Kept Clauses (answer (Done Nothing) (begun q c o n r))
+  can : Clear (beginBars r b) → CanBegin r b
+  can x = let f = fitting _ _ (x .1 .1 .0) in
+      record { idle = x .0; room = eqb-ne _ _ (x .1 .0); candidate = f .0; recovery = f .1; few = ltb-false _ _ (x .1 .1 .1 .0) }
+
+  clear : CanBegin r b → Clear (beginBars r b)
+  clear y = (y .idle, (ne-eqb _ _ (y .room), (fitted (y .candidate) (y .recovery), (le-ltb _ _ (y .few), refl))))
+
+  answered : {d t : Told} → d .class ≡ Class.performed → Decided r Error d (beginBars r b) t → BeginAnswer r b (t .class)
+  answered p (refuses n e) = e .0
+  answered p (does x) = rw p (begins (can x))
+
+  module _ (m : r .revision ≤ top) (w : whole r ≡ true) (structural : Bool) where
+    decided : Decided r Error (answer (Done Nothing) (begun (firstPhase structural) b r)) (beginBars r b) (step r (begin structural b))
+    unfolding own beginOwn
+    decided = settled r (begin structural b) (beginBars r b) w refl errors
+
+    pub begin-answer : BeginAnswer r b (step r (begin structural b) .class)
+    begin-answer = answered refl decided
+
+    pub begin-clauses : BeginClauses structural r b (step r (begin structural b))
     unfolding begun
-    starts h x k = record {
-      framed = search;
-      c147 = (λ i. x, λ y. refl);
-      ok = λ i. record { c148 = h; c149 = refl; c149-candidate = refl; c149-recovery = refl; c150 = refl; c151 = refl; c152 = refl; c153 = refl };
-      c154 = performed-fine;
-      c157 = performed-fine;
+    begin-clauses = record {
+      framed = record { wf = still-whole r m w (begin structural b); accepted = keeps (λ s. s .accepted ≡ r .accepted) decided refl refl; version = keeps (λ s. s .revision ≡ r .revision) decided refl refl };
+      c147 = decides decided refl can clear;
+      ok = only (λ t. Begun structural b (t .state)) decided (λ x. record { c148 = refl; c149 = refl; c149-candidate = refl; c149-recovery = refl; c150 = refl; c151 = refl; c152 = refl; c153 = refl });
+      c154 = λ i. denied decided refl i .0;
+      c157 = λ i. denied decided refl i .1 .1;
     }
 
-    begins : (structural : Bool) → firstPhase structural ≡ p → Kept Clauses (beginOwn structural r c o n)
-    unfolding beginOwn gained
-    begins structural h =
-        by Clauses _ (λ e. refuses Pending (λ x. clash _ e (x .idle)) (λ g. yes _ e refl)) (λ e₁.
-        by Clauses _ (λ e. refuses Capacity (λ x. x .room (eqb-true _ _ e)) (λ g. no _ e₁ refl)) (λ e₂.
-        by Clauses _ (λ e. refuses TooLong (λ x. too-long c o e (x .candidate) (x .recovery)) never) (λ e₃. let x = fitting c o e₃ in
-        by Clauses _ (λ e. refuses TooMany (λ x. omega (tests, x .few)) never)
-        (λ e₄. starts h (record { idle = e₁; room = eqb-ne _ _ e₂; candidate = x .0; recovery = x .1; few = ltb-false _ _ e₄ })))))
+module _ (r : Record) (c o : ℕ) (m : r .revision ≤ top) (w : whole r ≡ true) where
+  abbrev Unstaged : Class → Type 0
+  Unstaged d = d ≡ refusal Idle → r .staged ≡ false
 
-  module _ (m : r .revision ≤ top) (w : whole r ≡ true) where
-    pub begin-clauses : BeginClauses none r c o n (step r (begin false c o n))
-    unfolding own
-    begin-clauses = on-step (Clauses none) r (begin false c o n) m w (begins none false first)
-
-    pub begin-structural-clauses : BeginClauses remove r c o n (step r (begin true c o n))
-    unfolding own
-    begin-structural-clauses = on-step (Clauses remove) r (begin true c o n) m w (begins remove true first-structural)
-
-module _ (r : Record) (c o : ℕ) where
-  abbrev Edits : Told → Type 0
-  Edits = EditClauses r c o
-
-  -- a refusal by its number, and the edit itself
-  stays : (why : Refusal) → (refusalNumber why ≡ 2 → r .staged ≡ false) → Kept Edits (refuse why r)
-  stays why f k = record {
-    framed = search;
-    c124 = search;
-    c123-record = λ i. absurd (refusal-real why i);
-    c123-refused = λ i. refl;
-    c128 = λ i. absurd (refusal-real why i);
-    c129 = f;
-    c130 = f;
-  }
-
-  stores : Kept Edits (answer (Done Nothing) (withLengths (r .accepted) c o r))
-  stores k = record {
-    framed = search;
-    c124 = search;
-    c123-record = λ i. refl;
-    c123-refused = performed-fine;
-    c128 = λ i. (refl, refl);
-    c129 = λ i. absurd (omega arith);
-    c130 = λ i. absurd (omega arith);
-  }
-
-  pub edit-clauses : r .revision ≤ top → whole r ≡ true → Edits (step r (edit c o))
+  edited : Decided r Unstaged (answer (Done Nothing) (withLengths (r .accepted) c o r)) (editBars r c o) (step r (edit c o))
   unfolding own editOwn
-  edit-clauses m w = on-step Edits r (edit c o) m w
-      (by Edits _ (λ e. stays Idle (λ i. not-true _ e)) (λ e₁.
-      by Edits _ (λ e. stays TooLong (λ i. absurd (omega arith)))
-      (λ e₂. stores)))
+  edited = settled r (edit c o) (editBars r c o) w refl (λ e i. not-true _ e, λ e₁. (λ e. differ refl, λ e₂. refl))
+
+  idle : {d t : Told} → Decided r Unstaged d (editBars r c o) t → d .class ≡ Class.performed → t .class ≡ refusal Idle → (r .staged ≡ false) × (t .state .staged ≡ false)
+  idle (refuses n e) p i = (e i, e i)
+  idle (does x) p i = differ (rw p) i
+
+  pub edit-clauses : EditClauses r c o (step r (edit c o))
+  edit-clauses = record {
+    framed = record { wf = still-whole r m w (edit c o); accepted = keeps (λ s. s .accepted ≡ r .accepted) edited refl refl; version = keeps (λ s. s .revision ≡ r .revision) edited refl refl };
+    c124 = keeps (SameBatch r) edited (search) (search);
+    c123-record = only (λ t. t .state ≡ withLengths (r .accepted) c o r) edited (λ x. refl);
+    c123-refused = λ i. denied edited refl i .0;
+    c128 = only (λ t. (t .state .candidate ≡ c) × (t .state .recovery ≡ o)) edited (λ x. (refl, refl));
+    c129 = λ i. idle edited refl i .0;
+    c130 = λ i. idle edited refl i .1;
+  }

@@ -1,26 +1,21 @@
 -- `effect_status`, `initialize_effect_status` and `cancel`, clause by clause. Assumes nothing.
 use Prim.Native.Nat.{ℕ, _+_, _/_, _%_}
-use mathlib.Core.Path.{_≡_, refl, ap}
-use mathlib.Core.Bool.{true, false}
-use mathlib.Core.List.{List, [], _∷_}
-use native.Mathlib.Omega.{arith}
+use mathlib.Core.{Path._≡_, Path.refl, Path.ap, Bool.true, Bool.false, List.List, List.[], List._∷_}
 use lib.Dec.{eqb}
 use lib.ListN.{getD, length-set}
 use lib.Seq.{getD-set-same, getD-set-other}
 use borrow.Author.Tests.{eq-eqb, eqb-true, ltb-false, le-leb, leb-false, not-true, not-false}
 use Rattle.choice.specs.Pick.{pick, _and_, _or_}
-use Rattle.choice.proofs.Picks.{picked}
-use Rattle.choice.proofs.Tests.{tests, both, join}
-use Rattle.record.specs.Answers.{said}
+use Rattle.choice.proofs.{Picks.picked, Tests.tests, Tests.never, Tests.both, Tests.join}
+use Rattle.record.specs.{Classes.refused, Classes.Class.performed, Answers.said}
 use Rattle.record.specs.declared.Refusal.{Refusal}
-use Rattle.status.specs.Status.{StatusCall, Marks, leavesMarks, linked, bytesSound, entryOf, put, withInitialized, withCancelled, allowed, next, marking, marksOf}
-use Rattle.status.specs.Status.StatusCall.{initialize}
-use Rattle.status.specs.declared.Entry.{Entry}
-use Rattle.status.specs.declared.Entry.the-variants.{At, No}
+use Rattle.status.specs.{Status.StatusCall, Status.Marks, Status.leavesMarks, Status.linked, Status.bytesSound, Status.entryOf, Status.put}
+use Rattle.status.specs.{Status.withInitialized, Status.withCancelled, Status.allowed, Status.next, Status.marking, Status.marksOf}
+use Rattle.status.specs.{Status.StatusCall.initialize}
+use Rattle.status.specs.declared.{Entry.Entry, Entry.the-variants.At, Entry.the-variants.No}
 use Rattle.demand_steps.proofs.Testing.{right}
-use Rattle.demand_chains.proofs.Granting.{clash}
 use Rattle.clauses.specs.Status.{Place, MarkClauses, Initializes, Cancels}
-use Rattle.clauses.proofs.Splitting.{refusal-real}
+use Rattle.clauses.proofs.Splitting.{clash}
 
 module _ (groups status : List ℕ) (id : ℕ) where
   -- what is found at the id
@@ -49,14 +44,14 @@ module _ (groups status : List ℕ) (id : ℕ) where
     marks : {e : Entry} → Found e → Clauses (marking e status (allowed c) (next c))
     unfolding marking put
     marks (none why f) = record {
-      c400 = (λ i. absurd (refusal-real why i), λ x. absurd (f (x .0)));
-      c407 = λ i. absurd (refusal-real why i);
+      c400 = (λ i. never (ap refused i), λ x. absurd (f (x .0)));
+      c407 = λ i. never (ap refused i);
       c408 = λ i. refl;
     }
     marks (there p) =
         picked Clauses _ (λ e. record {
-          c400 = (λ i. absurd (omega arith), λ x. clash _ (x .1) (not-true _ e));
-          c407 = λ i. absurd (omega arith);
+          c400 = (λ i. never (ap refused i), λ x. clash _ (x .1) (not-true _ e));
+          c407 = λ i. never (ap refused i);
           c408 = λ i. refl;
         }) (λ e. record {
           c400 = (λ i. (p, not-false _ e), λ x. refl);
@@ -100,6 +95,6 @@ pub cancelled-sound : (group mark : ℕ) → bytesSound group mark ≡ true → 
 cancelled-sound group mark e l = let x = cancelled-alone mark in sound-after group mark _ e l (x .linked) (x .finished)
 
 -- initializing is not always refused: a live and settled group, linked
-pub initialize-possible : marksOf (0 ∷ 3 ∷ []) (0 ∷ 1 ∷ []) 1 initialize ≡ leavesMarks (said 0 []) (0 ∷ 5 ∷ [])
+pub initialize-possible : marksOf (0 ∷ 3 ∷ []) (0 ∷ 1 ∷ []) 1 initialize ≡ leavesMarks (said performed []) (0 ∷ 5 ∷ [])
 unfolding entryOf bytesSound marking put withInitialized pick _and_ _or_
 initialize-possible = refl

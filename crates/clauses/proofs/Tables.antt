@@ -1,22 +1,15 @@
 -- The tables of phases, and what a whole record says of its own. Assumes nothing.
 use Prim.Native.Nat.{ℕ, _≤_}
-use mathlib.Core.Path.{_≡_, refl}
-use mathlib.Core.Bool.{Bool, true, false}
-use mathlib.Core.List.{map}
+use mathlib.Core.{Path._≡_, Path.refl, Bool.Bool, Bool.true, Bool.false, List.map}
 use native.Mathlib.Omega.{arith}
 use Rattle.choice.specs.Pick.{pick, _and_, _or_}
 use Rattle.phases.specs.Phases.{hasSuccessor, successor, boundary}
 use Rattle.record.specs.Fields.{top}
-use Rattle.record.specs.declared.Record.{Record}
-use Rattle.record.specs.declared.Live.{Live}
-use Rattle.record.specs.declared.Live.the-variants.{None}
+use Rattle.record.specs.declared.{Record.Record, Live.Live, Live.the-variants.None}
 use Rattle.wholeness.specs.Whole.{whole}
 use Rattle.wholeness.proofs.Facts.{parts}
-use Rattle.demand_steps.proofs.Facts.{Stage, Calm, tests}
-use Rattle.demand_steps.proofs.Facts.Stage.{flat, flatBack, before, updating, after, undoing, backing}
-use Rattle.demand_steps.proofs.Facts.Calm.{on, off}
-use Rattle.demand_steps.proofs.Reading.{whole-facts}
-use Rattle.demand_steps.proofs.Calming.{room}
+use Rattle.demand_steps.proofs.{Facts.Stage, Facts.Calm, Facts.tests, Facts.Stage.flat, Facts.Stage.flatBack, Facts.Stage.before, Facts.Stage.updating}
+use Rattle.demand_steps.proofs.{Facts.Stage.after, Facts.Stage.undoing, Facts.Stage.backing, Facts.Calm.on, Facts.Calm.off, Reading.whole-facts, Calming.room}
 use Rattle.clauses.specs.Tables.{phases, numberOf, successors, boundaries, Protocol, WellFormed}
 
 pub successor-table : map (λ p. numberOf (successor p)) phases ≡ successors

@@ -10,10 +10,14 @@ use Rattle.choice.specs.Pick.{pick, _or_}
 use Rattle.areas.specs.Areas.{areaSize}
 use Rattle.phases.specs.Phases.{none, ready, recovered}
 use Rattle.record.specs.Classes.{refused}
+use Rattle.record.specs.Classes.Class.{performed, refusal}
 use Rattle.record.specs.Answers.{Told}
+use Rattle.record.specs.Given.{at}
 use Rattle.record.specs.declared.Record.{Record}
+use Rattle.record.specs.declared.Refusal.the-variants.{Pending, Idle, NotReady}
 use Rattle.wholeness.specs.Whole.{whole, complete}
 use Rattle.step_begins.specs.Opening.{opening}
+use Rattle.step_stamps.specs.declared.SaveStamp.{SaveStamp}
 use Rattle.clauses.specs.Keeping.{gained, SameStaged, SameBatch}
 
 -- staged, the batch complete, and the phase none or `Ready`
@@ -35,19 +39,19 @@ pub record Committed (r : Record) (t : Told) : Type 0 where
   -- as many applied as entries
   pub c200 : r .applied ≡ r .entries
   -- stronger: the whole record, that of an opening with the serial kept
-  pub c189-record : t .state ≡ opening (r .revision + 1) (r .serial) (r .candidate)
+  pub c189-record : t .state ≡ opening (at (r .revision + 1) (r .serial)) (r .candidate)
 
 pub record CommitClauses (r : Record) (t : Told) : Type 0 where
   -- `new.wf()`
   pub c189 : whole (t .state) ≡ true
   -- ok exactly if ..
-  pub c190 : (t .number ≡ 0) ↔ CanCommit r
+  pub c190 : (t .class ≡ performed) ↔ CanCommit r
   -- an error implies `new == old`
   pub c191 : refused (t .class) ≡ true → t .state ≡ r
   -- an error is `Idle` if not staged and `NotReady` if staged
-  pub c192 : refused (t .class) ≡ true → t .number ≡ pick (r .staged) 4 2
+  pub c192 : refused (t .class) ≡ true → t .class ≡ refusal (pick (r .staged) NotReady Idle)
   -- C193 to C200
-  pub ok : t .number ≡ 0 → Committed r t
+  pub ok : t .class ≡ performed → Committed r t
 
 -- staged, no entries, the phase none or `Recovered`, and not 8
 pub record CanRecover (r : Record) (n : ℕ) : Type 0 where
@@ -66,7 +70,7 @@ pub record Recovered (r : Record) (n : ℕ) (t : Told) : Type 0 where
   -- the answer has the lengths of the old accepted, candidate and recovery payloads (also C211, C219, C220)
   pub c210 : t .values ≡ r .accepted ∷ r .candidate ∷ r .recovery ∷ []
   -- stronger: the whole record, as after a commit but for the revision (also C214)
-  pub c202-record : t .state ≡ opening (r .revision) (r .serial) n
+  pub c202-record : t .state ≡ opening (at (r .revision) (r .serial)) n
 
 -- `recover` with a payload of length n, and `recover_with`, whose n is the retained one's
 pub record RecoverClauses (r : Record) (n : ℕ) (t : Told) : Type 0 where
@@ -75,13 +79,13 @@ pub record RecoverClauses (r : Record) (n : ℕ) (t : Told) : Type 0 where
   -- the version stays (also C215)
   pub c203 : t .state .revision ≡ r .revision
   -- ok exactly if .. (also C216)
-  pub c204 : (t .number ≡ 0) ↔ CanRecover r n
+  pub c204 : (t .class ≡ performed) ↔ CanRecover r n
   -- an error implies `new == old` (also C217)
   pub c205 : refused (t .class) ≡ true → t .state ≡ r
   -- which error `recover_with` gives is open upstream: here 2 if not staged, else 4 (or 8)
-  pub error : refused (t .class) ≡ true → gained (t .number) ≡ false → t .number ≡ pick (r .staged) 4 2
+  pub error : refused (t .class) ≡ true → gained (t .class) ≡ false → t .class ≡ refusal (pick (r .staged) NotReady Idle)
   -- C207 to C211, C218 to C222
-  pub ok : t .number ≡ 0 → Recovered r n t
+  pub ok : t .class ≡ performed → Recovered r n t
 
 pub record RefreshClauses (r : Record) (n : ℕ) (t : Told) : Type 0 where
   -- `new.wf()`
@@ -90,22 +94,22 @@ pub record RefreshClauses (r : Record) (n : ℕ) (t : Told) : Type 0 where
   pub c226 : t .state .revision ≡ r .revision
   pub c227 : SameStaged r (t .state)
   -- ok exactly if not staged, and not 8
-  pub c228 : (t .number ≡ 0) ↔ ((r .staged ≡ false) × (n ≤ areaSize))
+  pub c228 : (t .class ≡ performed) ↔ ((r .staged ≡ false) × (n ≤ areaSize))
   -- ok implies that the accepted payload is the given one, by its length, and answers with the old one's
-  pub c229 : t .number ≡ 0 → t .state .accepted ≡ n
-  pub c230 : t .number ≡ 0 → t .values ≡ r .accepted ∷ []
+  pub c229 : t .class ≡ performed → t .state .accepted ≡ n
+  pub c230 : t .class ≡ performed → t .values ≡ r .accepted ∷ []
   -- an error implies `new == old`
   pub c231 : refused (t .class) ≡ true → t .state ≡ r
 
 -- some exactly if not staged; then the domain and the version
 pub record StampClauses (r : Record) (domain : ℕ) (t : Told) : Type 0 where
-  pub c115 : (t .number ≡ 0) ↔ (r .staged ≡ false)
-  pub c116 : t .number ≡ 0 → t .values ≡ domain ∷ r .revision ∷ []
-  pub error : refused (t .class) ≡ true → t .number ≡ 1
+  pub c115 : (t .class ≡ performed) ↔ (r .staged ≡ false)
+  pub c116 : t .class ≡ performed → t .values ≡ domain ∷ r .revision ∷ []
+  pub error : refused (t .class) ≡ true → t .class ≡ refusal Pending
   pub kept : t .state ≡ r
 
 -- true exactly if not staged, and both numbers agree
-pub record CheckClauses (r : Record) (domain d v : ℕ) (t : Told) : Type 0 where
-  pub c119 : (t .values ≡ 1 ∷ []) ↔ ((r .staged ≡ false) × (domain ≡ d) × (r .revision ≡ v))
-  pub answered : t .number ≡ 0
+pub record CheckClauses (r : Record) (domain : ℕ) (s : SaveStamp) (t : Told) : Type 0 where
+  pub c119 : (t .values ≡ 1 ∷ []) ↔ ((r .staged ≡ false) × (domain ≡ s .domain) × (r .revision ≡ s .revision))
+  pub answered : t .class ≡ performed
   pub kept : t .state ≡ r

@@ -1,21 +1,23 @@
 -- Document 01, "Gaps read in the contracts": what upstream leaves open and the steps here decide. t is what a call tells of the
 -- record r. Assumes nothing.
-use Prim.Native.Nat.{ℕ, _+_, _/_, _≤_, _<_}
+use Prim.Native.Nat.{ℕ, _+_, _≤_, _<_}
 use mathlib.Core.Path.{_≡_}
 use mathlib.Core.Bool.{true, false, not}
 use mathlib.Core.List.{List, [], _∷_}
 use mathlib.Core.Logic.{_≢_}
 use lib.Dec.{eqb, ltb}
-use lib.ListN.{length}
 use Rattle.choice.specs.Pick.{_or_}
 use Rattle.phases.specs.Phases.{none, remove, updates, ready, undo, recoverRemove, recovered, hasSuccessor, boundary}
-use Rattle.areas.specs.Areas.{areaSize}
+use Rattle.areas.specs.Areas.{areaSize, long}
 use Rattle.batch.specs.Batch.{limit}
-use Rattle.record.specs.Classes.{refused}
+use Rattle.record.specs.Classes.{Class, StepAnswer, refused}
+use Rattle.record.specs.Classes.Class.{performed, refusal, stepping}
 use Rattle.record.specs.Answers.{Told}
 use Rattle.record.specs.Leaves.{Leaves}
 use Rattle.record.specs.Fields.{top}
 use Rattle.record.specs.declared.Record.{Record}
+use Rattle.record.specs.declared.Beginning.{Beginning}
+use Rattle.record.specs.declared.Refusal.the-variants as why
 use Rattle.clauses.specs.Keeping.{SameStaged}
 use Rattle.clauses.specs.Structure.{Advances}
 use Rattle.clauses.specs.Staging.{CanBegin}
@@ -25,52 +27,53 @@ use Rattle.clauses.specs.Ending.{CanRecover}
 -- and answers Finished at a boundary and else More
 pub record Succeeds (r : Record) (t : Told) : Type 0 where
   pub onward : Advances r (t .state)
-  pub finished : boundary (t .state .phase .number) ≡ true → t .number ≡ 24
-  pub more : boundary (t .state .phase .number) ≡ false → t .number ≡ 23
+  pub finished : boundary (t .state .phase .number) ≡ true → t .class ≡ stepping StepAnswer.finished
+  pub more : boundary (t .state .phase .number) ≡ false → t .class ≡ stepping StepAnswer.more
 
 -- "the answer is nearly free where no callback runs": here it is fixed by the phase, and by the serial where a ticket is due
 pub record StructureAsked (r : Record) (t : Told) : Type 0 where
-  pub notReady : eqb (r .phase .number) none or eqb (r .phase .number) updates or eqb (r .phase .number) undo ≡ true → t .number ≡ 4
-  pub finished : eqb (r .phase .number) ready or eqb (r .phase .number) recovered ≡ true → t .number ≡ 24
-  pub ticket : hasSuccessor (r .phase .number) ≡ true → r .serial ≢ top → (t .number ≡ 20) × (t .values ≡ (r .serial + 1) ∷ r .phase .number ∷ [])
-  pub worn : hasSuccessor (r .phase .number) ≡ true → r .serial ≡ top → t .number ≡ 11
+  pub notReady : eqb (r .phase .number) none or eqb (r .phase .number) updates or eqb (r .phase .number) undo ≡ true → t .class ≡ refusal why.NotReady
+  pub finished : eqb (r .phase .number) ready or eqb (r .phase .number) recovered ≡ true → t .class ≡ stepping StepAnswer.finished
+  pub ticket : hasSuccessor (r .phase .number) ≡ true → r .serial ≢ top → (t .class ≡ stepping StepAnswer.ticket) × (t .values ≡ (r .serial + 1) ∷ r .phase .number ∷ [])
+  pub worn : hasSuccessor (r .phase .number) ≡ true → r .serial ≡ top → t .class ≡ refusal why.Worn
   -- C25, C233: the staged payloads are as they were
   pub staged : SameStaged r (t .state)
 
 -- "`poll_update` .. and `poll_rollback`: only wf bounds the phase afterwards": here one phase becomes another exactly where the answer
 -- is Finished, and every other phase stays: 5 becomes 6 (ask update, report update), 8 becomes 9 (report rollback)
 pub record AtFinished (from to : ℕ) (r : Record) (t : Told) : Type 0 where
-  pub becomes : t .number ≡ 24 → r .phase .number ≡ from → t .state .phase .number ≡ to
-  pub stays : t .number ≢ 24 → t .state .phase .number ≡ r .phase .number
+  pub becomes : t .class ≡ stepping StepAnswer.finished → r .phase .number ≡ from → t .state .phase .number ≡ to
+  pub stays : t .class ≢ stepping StepAnswer.finished → t .state .phase .number ≡ r .phase .number
   pub elsewhere : r .phase .number ≢ from → t .state .phase .number ≡ r .phase .number
 
 -- and an asked rollback turns the phases 1 to 7 to 9, or to 8 where something was attempted; 0 and 8 stay, and 9 to 13 change nothing
 pub record RollbackAsked (r : Record) (t : Told) : Type 0 where
-  pub empty : remove ≤ r .phase .number → r .phase .number ≤ ready → r .attempted ≡ 0 → (t .number ≡ 24) × (t .state .phase .number ≡ recoverRemove)
-  pub some : remove ≤ r .phase .number → r .phase .number ≤ ready → 0 < r .attempted → r .serial ≢ top → (t .number ≡ 20) × (t .state .phase .number ≡ undo)
+  pub empty : remove ≤ r .phase .number → r .phase .number ≤ ready → r .attempted ≡ 0 → (t .class ≡ stepping StepAnswer.finished) × (t .state .phase .number ≡ recoverRemove)
+  pub some : remove ≤ r .phase .number → r .phase .number ≤ ready → 0 < r .attempted → r .serial ≢ top → (t .class ≡ stepping StepAnswer.ticket) × (t .state .phase .number ≡ undo)
   pub flat : r .phase .number ≡ none → t .state .phase .number ≡ none
   pub undoing : r .phase .number ≡ undo → t .state .phase .number ≡ undo
-  pub behind : recoverRemove ≤ r .phase .number → (t .number ≡ 24) × (t .state ≡ r)
-  pub worn : r .phase .number < recoverRemove → 0 < r .attempted → r .serial ≡ top → (t .number ≡ 11) × (t .state ≡ r)
+  pub behind : recoverRemove ≤ r .phase .number → (t .class ≡ stepping StepAnswer.finished) × (t .state ≡ r)
+  pub worn : r .phase .number < recoverRemove → 0 < r .attempted → r .serial ≡ top → (t .class ≡ refusal why.Worn) × (t .state ≡ r)
 
 -- "`begin_structural`: nothing on what `Rejected` holds": here each answer has its case, for both begins
-pub data BeginAnswer (r : Record) (c o n : ℕ) : ℕ → Type 0 where
-  pending : r .staged ≡ true → BeginAnswer r c o n 1
-  capacity : r .staged ≡ false → r .revision ≡ top → BeginAnswer r c o n 3
-  tooLong : r .staged ≡ false → r .revision ≢ top → ltb areaSize c or ltb areaSize o ≡ true → BeginAnswer r c o n 8
-  tooMany : r .staged ≡ false → r .revision ≢ top → c ≤ areaSize → o ≤ areaSize → limit < n → BeginAnswer r c o n 9
-  begins : CanBegin r c o n → BeginAnswer r c o n 0
+pub data BeginAnswer (r : Record) (b : Beginning) : Class → Type 0 where
+  pending : r .staged ≡ true → BeginAnswer r b (refusal why.Pending)
+  capacity : r .staged ≡ false → r .revision ≡ top → BeginAnswer r b (refusal why.Capacity)
+  tooLong : r .staged ≡ false → r .revision ≢ top → long (b .candidate) or long (b .recovery) ≡ true → BeginAnswer r b (refusal why.TooLong)
+  tooMany : r .staged ≡ false → r .revision ≢ top → b .candidate ≤ areaSize → b .recovery ≤ areaSize → limit < b .actions → BeginAnswer r b (refusal why.TooMany)
+  begins : CanBegin r b → BeginAnswer r b performed
 
--- and a refused one holds all that it was given, while one that is performed starts the batch at zero: v is what a begin leaves that is
--- lent the candidate and recovery areas c and o and the table t, with two payloads and the pairs
-pub record Rejects (r : Record) (c o t new old pairs : List ℕ) (v : Leaves) : Type 0 where
-  pub answered : BeginAnswer r (length new) (length old) (length pairs / 2) (v .told .number)
-  pub same : refused (v .told .class) ≡ true → (v .told .state ≡ r) × (v .lent ≡ c ∷ o ∷ t ∷ [])
-  pub zero : v .told .number ≡ 0 → (v .told .state .applied ≡ 0) × (v .told .state .attempted ≡ 0) × (v .told .state .restoring ≡ false)
+-- and a refused one holds all that it was lent, while one that is performed starts the batch at zero: v is what a begin leaves
+pub record Rejects (r : Record) (b : Beginning) (lent : List (List ℕ)) (v : Leaves) : Type 0 where
+  pub answered : BeginAnswer r b (v .told .class)
+  pub same : refused (v .told .class) ≡ true → (v .told .state ≡ r) × (v .lent ≡ lent)
+  pub zero : v .told .class ≡ performed → (v .told .state .applied ≡ 0) × (v .told .state .attempted ≡ 0) × (v .told .state .restoring ≡ false)
 
 -- "`recover_with`: which error is open": here each answer has its case, for both recoveries, to a payload of length n
-pub data RecoverAnswer (r : Record) (n : ℕ) : ℕ → Type 0 where
-  idle : r .staged ≡ false → RecoverAnswer r n 2
-  notReady : r .staged ≡ true → ltb 0 (r .entries) or not (eqb (r .phase .number) none or eqb (r .phase .number) recovered) ≡ true → RecoverAnswer r n 4
-  tooLong : r .staged ≡ true → r .entries ≡ 0 → eqb (r .phase .number) none or eqb (r .phase .number) recovered ≡ true → areaSize < n → RecoverAnswer r n 8
-  recovers : CanRecover r n → RecoverAnswer r n 0
+pub data RecoverAnswer (r : Record) (n : ℕ) : Class → Type 0 where
+  idle : r .staged ≡ false → RecoverAnswer r n (refusal why.Idle)
+  notReady : r .staged ≡ true → ltb 0 (r .entries) or not (eqb (r .phase .number) none or eqb (r .phase .number) recovered) ≡ true →
+      RecoverAnswer r n (refusal why.NotReady)
+  tooLong : r .staged ≡ true → r .entries ≡ 0 → eqb (r .phase .number) none or eqb (r .phase .number) recovered ≡ true → areaSize < n →
+      RecoverAnswer r n (refusal why.TooLong)
+  recovers : CanRecover r n → RecoverAnswer r n performed

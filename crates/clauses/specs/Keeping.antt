@@ -1,16 +1,34 @@
--- What clauses of several functions say alike: wholeness, and what a call keeps. Assumes nothing.
-use Prim.Native.Nat.{ℕ, _≤_}
+-- What clauses of several functions say alike: which refusals they gain, wholeness, and what a call keeps. Assumes nothing.
 use mathlib.Core.Path.{_≡_}
-use mathlib.Core.Bool.{Bool, true, _&&_}
-use lib.Dec.{leb}
-use Rattle.areas.specs.Areas.{areaSize}
+use mathlib.Core.Bool.{Bool, true, false}
+use Rattle.record.specs.Classes.{Class}
+use Rattle.record.specs.Classes.Class.{performed, refusal, stepping}
 use Rattle.record.specs.Answers.{Told}
 use Rattle.record.specs.declared.Record.{Record}
+use Rattle.record.specs.declared.Refusal.{Refusal}
+use Rattle.record.specs.declared.Refusal.the-variants.{Pending, Idle, Capacity, NotReady, Recovering, BadArea, Damaged, TooLong, TooMany, Stale, Worn, LogFull, NoStatus}
 use Rattle.wholeness.specs.Whole.{whole}
 
 -- "Iff clauses gain the refusals 6 to 12; the others hold where none of these is given."
-unfoldable pub gained : ℕ → Bool
-gained n = leb 6 n && leb n 12
+abbrev pub gains : Refusal → Bool
+gains Pending = false
+gains Idle = false
+gains Capacity = false
+gains NotReady = false
+gains Recovering = false
+gains BadArea = true
+gains Damaged = true
+gains TooLong = true
+gains TooMany = true
+gains Stale = true
+gains Worn = true
+gains LogFull = true
+gains NoStatus = false
+
+abbrev pub gained : Class → Bool
+gained performed = false
+gained (refusal why) = gains why
+gained (stepping s) = false
 
 -- `staged()`: none, or the two payloads, here by their lengths
 pub record SameStaged (r s : Record) : Type 0 where
@@ -31,10 +49,3 @@ pub record Framed (r : Record) (t : Told) : Type 0 where
   pub wf : whole (t .state) ≡ true
   pub accepted : t .state .accepted ≡ r .accepted
   pub version : t .state .revision ≡ r .revision
-
--- two payloads are stored, by their lengths, which fit
-pub record Stores (c o : ℕ) (s : Record) : Type 0 where
-  pub candidate : s .candidate ≡ c
-  pub recovery : s .recovery ≡ o
-  pub candidate-fits : c ≤ areaSize
-  pub recovery-fits : o ≤ areaSize

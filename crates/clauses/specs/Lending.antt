@@ -7,22 +7,28 @@ use mathlib.Core.List.{List, []}
 use lib.ListN.{length, getD, take}
 use Rattle.batch.specs.Batch.{identityAt, payloadAt}
 use Rattle.record.specs.Classes.{refused}
-use Rattle.record.specs.Answers.{Told, refuse}
-use Rattle.record.specs.Leaves.{Leaves}
+use Rattle.record.specs.Answers.{refuse}
+use Rattle.record.specs.Leaves.{Leaves, moving}
 use Rattle.record.specs.declared.Record.{Record}
 use Rattle.record.specs.declared.Refusal.the-variants.{BadArea}
+use Rattle.calls.specs.Calls.{Call, stepOf, step}
+use Rattle.calls.specs.Lending.{Lending, callOf, fits, lent, moved}
 
 -- document 01: "a payload being the first 0 to 4,096"
 abbrev pub payload : ℕ → List ℕ → List ℕ
 payload n area = take n area
 
--- a call on r that tells t where all sizes are right: what it is lent stays if it is refused (C154, C163, C191, C205, C206, C217,
--- C231, C232, C130, C140, C155, C156), and else is what its step moves it to
-pub record Lends (r : Record) (sizes : Bool) (t : Told) (lent moved : List (List ℕ)) (v : Leaves) : Type 0 where
-  pub tells : sizes ≡ true → v .told ≡ t
-  pub bad : sizes ≡ false → v .told ≡ refuse BadArea r
-  pub stays : refused (v .told .class) ≡ true → v .lent ≡ lent
-  pub moves : refused (v .told .class) ≡ false → v .lent ≡ moved
+-- what a call leaves without a log: of a call of the transaction it is `leavesOf`, and so it is of the same call of the recorder
+abbrev pub unrecorded : {logged : Bool} → Record → Lending logged → Leaves
+unrecorded r c = moving (stepOf (fits c) true r (callOf c)) (lent c) (moved r c)
+
+-- a call d on r, with all that it is lent: what it is lent stays if it is refused (C154, C163, C191, C205, C206, C217, C231, C232, C130,
+-- C140, C155, C156), and else is what its step moves it to
+pub record Lends {logged : Bool} (r : Record) (c : Lending logged) (d : Call) (v : Leaves) : Type 0 where
+  pub tells : fits c ≡ true → v .told ≡ step r d
+  pub bad : fits c ≡ false → v .told ≡ refuse BadArea r
+  pub stays : refused (v .told .class) ≡ true → v .lent ≡ lent c
+  pub moves : refused (v .told .class) ≡ false → v .lent ≡ moved r c
 
 -- C153, C165: the updates of a table are the pairs that were given
 pub record ReadBack (pairs table : List ℕ) : Type 0 where

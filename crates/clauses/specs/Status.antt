@@ -5,6 +5,7 @@ use mathlib.Core.Bool.{true}
 use mathlib.Core.List.{List}
 use mathlib.Core.Logic.{_≢_, _↔_}
 use lib.ListN.{length, getD}
+use Rattle.record.specs.Classes.Class.{performed}
 use Rattle.status.specs.Status.{StatusCall, Marks, allowed, next, bytesSound}
 
 -- where 6, 7 and the id's 13 are not given
@@ -25,11 +26,11 @@ pub record Sets (status : List ℕ) (id mark : ℕ) (after : List ℕ) : Type 0 
 -- each call is allowed by the group byte and the status byte, and makes the status byte the next one
 pub record MarkClauses (groups status : List ℕ) (id : ℕ) (c : StatusCall) (v : Marks) : Type 0 where
   -- some exactly if .. (C400, C410)
-  pub c400 : (v .said .number ≡ 0) ↔ (Place groups status id × (allowed c (getD groups id 0) (getD status id 0) ≡ true))
+  pub c400 : (v .said .class ≡ performed) ↔ (Place groups status id × (allowed c (getD groups id 0) (getD status id 0) ≡ true))
   -- some implies the new byte, and every other as it was (C402, C405 to C407, C412, C388)
-  pub c407 : v .said .number ≡ 0 → Sets status id (next c (getD status id 0)) (v .status)
+  pub c407 : v .said .class ≡ performed → Sets status id (next c (getD status id 0)) (v .status)
   -- none implies `new == old`
-  pub c408 : v .said .number ≢ 0 → v .status ≡ status
+  pub c408 : v .said .class ≢ performed → v .status ≡ status
 
 -- the flags of a byte, linked, cancelled, initialized and finished: the initialized one is set alone
 pub record Initializes (mark after : ℕ) : Type 0 where

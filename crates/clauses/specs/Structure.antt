@@ -6,9 +6,13 @@ use mathlib.Core.Bool.{true, false}
 use mathlib.Core.Logic.{_≢_}
 use Rattle.phases.specs.Phases.{none, adopt, hasSuccessor, successor, boundary}
 use Rattle.phases.specs.declared.Next.the-variants.{To}
+use Rattle.record.specs.Classes.{Class}
+use Rattle.record.specs.Classes.Class.{refusal}
+use Rattle.record.specs.Classes.StepAnswer.{finished}
 use Rattle.record.specs.Answers.{Told}
 use Rattle.record.specs.declared.Record.{Record}
 use Rattle.record.specs.declared.Live.the-variants.{None}
+use Rattle.record.specs.declared.Refusal.the-variants.{NotReady}
 use Rattle.clauses.specs.Keeping.{SameBatch, Framed}
 use Rattle.clauses.specs.Polls.{unfinished}
 
@@ -34,7 +38,7 @@ pub record StructureClauses (r : Record) (t : Told) : Type 0 where
   -- the new state is staged if the old one is
   pub c79 : t .state .staged ≡ r .staged
   -- in a phase with a successor `NotReady` is not given
-  pub c83 : hasSuccessor (r .phase .number) ≡ true → t .number ≢ 4
+  pub c83 : hasSuccessor (r .phase .number) ≡ true → t .class ≢ refusal NotReady
   -- in a phase without a successor, or in none: `old == new`; not staged is in none
   pub c84 : hasSuccessor (r .phase .number) ≡ false → t .state ≡ r
   pub c84-idle : r .staged ≡ false → hasSuccessor (r .phase .number) ≡ false
@@ -43,11 +47,11 @@ pub record StructureClauses (r : Record) (t : Told) : Type 0 where
   -- `new.batch() == old.batch()`
   pub c174 : SameBatch r (t .state)
   -- `Pending` or `Ready(Err(_))` implies that the phase stays
-  pub c175 : unfinished (t .number) ≡ true → t .state .phase ≡ r .phase
+  pub c175 : unfinished (t .class) ≡ true → t .state .phase ≡ r .phase
   -- C176 to C186
   pub stepping : Stepping r (t .state)
   -- `Ready(Ok(true))` implies that the new phase is `Updates`, `Ready` or `Recovered`
-  pub c187 : t .number ≡ 24 → boundary (t .state .phase .number) ≡ true
+  pub c187 : t .class ≡ Class.stepping finished → boundary (t .state .phase .number) ≡ true
 
 -- document 01: "Done goes to the successor, raises forward (phases 1 to 6) or back (9 to 12)", and its ticket
 -- ends; all else but the two lengths stays
