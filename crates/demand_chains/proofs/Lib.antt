@@ -4,8 +4,8 @@ pub mod Noting
 pub mod Tying
 pub mod Chain
 pub mod Exactly
-pub mod Granting
 pub mod OneDue
+pub mod Granting
 pub mod Asking
 pub mod Issuing
 pub mod Progress

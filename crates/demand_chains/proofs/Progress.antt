@@ -35,8 +35,7 @@ use Rattle.demand_steps.proofs.Testing.{ranges}
 use Rattle.demand_chains.proofs.Chain.{Good, undamaged}
 use Rattle.demand_steps.proofs.Calming.{range}
 use Rattle.demand_steps.proofs.Keeping.{report-keeps}
-use Rattle.demand_chains.proofs.Granting.{due-update}
-use Rattle.demand_chains.proofs.OneDue.{Due, due-is}
+use Rattle.demand_chains.proofs.OneDue.{Due, due-update, due-is}
 use Rattle.demand_chains.proofs.Issuing.{done-taken}
 
 -- one more is noted

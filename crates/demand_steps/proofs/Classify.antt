@@ -32,7 +32,7 @@ use Rattle.demand_steps.specs.Watching.{sees}
 use Rattle.demand_steps.specs.Watching as Watching
 use Rattle.demand_steps.proofs.Own.{own, row, answers}
 use Rattle.demand_steps.proofs.Unseen.{Unseen, unseen}
-use Rattle.demand_steps.proofs.Leaf.{Apart, Updates, Goes, Left, Leaf}
+use Rattle.demand_steps.proofs.Leaf.{Apart, Updates, Left, Leaf}
 use Rattle.demand_steps.proofs.Leaf.Goes.{last, more}
 use Rattle.demand_steps.proofs.Leaf.Leaf.{kept, began, structureAsked, updateEnded, updateAsked, rollbackEnded, turnedEmpty, turnedAsked, waited, went, updateTaken, undoTaken, committed, recovered, restored}
 
