@@ -1,6 +1,6 @@
-//! Copying and exchanging areas of 4,096 bytes: the proved functions, linked
-//! from target/staticlib/libedge.a, beside Rust's own and beside plain loops
-//! with checked indices.
+//! Copying and exchanging whole areas: the proved functions, linked from
+//! target/staticlib/libedge.a, beside Rust's own and beside plain loops with
+//! checked indices.
 //!
 //! Each round times every contender in turn, so that what slows the machine
 //! for a while slows all of them. A line gives the median of the rounds'
@@ -10,7 +10,9 @@
 
 use std::time::Instant;
 
-const SIZE: usize = 4096;
+/// Bytes of an area.
+const AREA: usize = 4096;
+/// How often each contender is timed, and over how many calls at a time.
 const ROUNDS: usize = 2001;
 const CALLS: usize = 100;
 
@@ -23,7 +25,7 @@ extern "C" {
 }
 
 #[repr(align(64))]
-struct Area([u8; SIZE]);
+struct Area([u8; AREA]);
 
 type Contender = (&'static str, fn(&mut [u8], &mut [u8]));
 
@@ -75,8 +77,8 @@ const EXCHANGES: [Contender; 3] = [
 ];
 
 fn areas() -> (Area, Area) {
-    let (mut a, mut b) = (Area([0; SIZE]), Area([0; SIZE]));
-    for i in 0..SIZE {
+    let (mut a, mut b) = (Area([0; AREA]), Area([0; AREA]));
+    for i in 0..AREA {
         a.0[i] = (i % 251) as u8;
         b.0[i] = (i % 241) as u8;
     }
@@ -121,7 +123,7 @@ fn race(title: &str, contenders: &[Contender]) {
             ratios[at].push(one / round[0]);
         }
     }
-    println!("{} of {} bytes, {} rounds of {} calls", title, SIZE, ROUNDS, CALLS);
+    println!("{} of {} bytes, {} rounds of {} calls", title, AREA, ROUNDS, CALLS);
     for (at, (name, _)) in contenders.iter().enumerate() {
         let (low, middle, high) =
             (part(&mut ratios[at], 1), part(&mut ratios[at], 2), part(&mut ratios[at], 3));

@@ -11,9 +11,12 @@ mod sides;
 
 use crate::boundary;
 use crate::make;
-use crate::table::Tally;
+use crate::tally::Tally;
 use sides::{ours, theirs, Ours};
 use std::io::{self, Write};
+
+/// How many of the scripts are fixed.
+const FIXED: usize = 3;
 
 /// Which scripts are played, and by which program.
 pub struct Plan<'a> {
@@ -56,15 +59,20 @@ fn lines(script: &[u8]) -> Vec<&[u8]> {
     }
 }
 
+/// The fixed scripts.
+fn fixed() -> io::Result<[(&'static str, Vec<u8>); FIXED]> {
+    let (mut boundary, mut sweep) = (Vec::new(), Vec::new());
+    boundary::boundary(&mut boundary)?;
+    boundary::sweep(&mut sweep)?;
+    Ok([("empty", Vec::new()), ("boundary", boundary), ("sweep", sweep)])
+}
+
 /// Plays all scripts of a plan on both sides; false at the first difference.
 pub fn compare(plan: &Plan, output: &mut dyn Write) -> io::Result<bool> {
     let tally = Tally::new();
     let mut totals = Totals { scripts: 0, lines: 0, answers: 0, bad: 0, shows: 0, tally };
-    let mut fixed = [Vec::new(), Vec::new(), Vec::new()];
-    boundary::boundary(&mut fixed[1])?;
-    boundary::sweep(&mut fixed[2])?;
-    for (script, name) in fixed.iter().zip(["empty", "boundary", "sweep"]) {
-        if !same(name, script, plan, &mut totals, output)? {
+    for (name, script) in fixed()? {
+        if !same(name, &script, plan, &mut totals, output)? {
             return Ok(false);
         }
     }
@@ -85,9 +93,10 @@ pub fn compare(plan: &Plan, output: &mut dyn Write) -> io::Result<bool> {
 fn summary(plan: &Plan, totals: &Totals, output: &mut dyn Write) -> io::Result<()> {
     writeln!(
         output,
-        "no difference: {} scripts (3 fixed, {} seeds from {}), {} lines, {} calls, {} bad lines, \
+        "no difference: {} scripts ({} fixed, {} seeds from {}), {} lines, {} calls, {} bad lines, \
          {} shows, {} lines of answers",
         totals.scripts,
+        FIXED,
         plan.seeds,
         plan.first_seed,
         totals.lines,
@@ -115,15 +124,21 @@ fn same(
     }
     writeln!(output, "{}: the two sides differ; looking for a smaller script", name)?;
     output.flush()?;
+    let last = there.first_difference(&here).and_then(|at| here.from.get(at).copied());
     let mut differs = |script: &[u8]| -> io::Result<bool> {
         Ok(!theirs(plan.driver, script)?.agrees(&ours(script)))
     };
-    let last = there.first_difference(&here).and_then(|at| here.from.get(at).copied());
     let (small, tries) = shrink::smallest(script, last, &mut differs)?;
-    let (here, there) = (ours(&small), theirs(plan.driver, &small)?);
-    let count = lines(&small).len();
+    report(&small, tries, plan, output)?;
+    Ok(false)
+}
+
+/// Shows a small script with what either side writes.
+fn report(small: &[u8], tries: u64, plan: &Plan, output: &mut dyn Write) -> io::Result<()> {
+    let (here, there) = (ours(small), theirs(plan.driver, small)?);
+    let count = lines(small).len();
     writeln!(output, "the smallest script found, {} lines after {} tries:", count, tries)?;
-    output.write_all(&small)?;
+    output.write_all(small)?;
     if !small.ends_with(b"\n") {
         writeln!(output, "(no newline)")?;
     }
@@ -132,5 +147,5 @@ fn same(
     if let Some(at) = there.first_difference(&here) {
         writeln!(output, "they differ first at line {} of the answers", at + 1)?;
     }
-    Ok(false)
+    Ok(())
 }

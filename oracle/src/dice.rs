@@ -5,7 +5,8 @@
 
 mod records;
 
-use crate::model::TOP;
+use crate::model::Opening;
+use crate::sizes::*;
 
 pub struct Dice(u64);
 
@@ -54,11 +55,15 @@ impl Dice {
         }
     }
 
+    pub fn opening(&mut self) -> Opening {
+        Opening { revision: self.any(), serial: self.any() }
+    }
+
     pub fn length(&mut self) -> u64 {
         match self.below(20) {
-            0 | 1 => 4096,
-            2 => 4095,
-            3 => self.below(4097),
+            0 | 1 => AREA,
+            2 => AREA - 1,
+            3 => self.below(AREA + 1),
             4 => 0,
             _ => self.below(24),
         }
@@ -67,8 +72,8 @@ impl Dice {
     /// A length of which some are too long.
     pub fn bold_length(&mut self) -> u64 {
         match self.below(24) {
-            0 | 1 => 4097,
-            2 => 5000,
+            0 | 1 => AREA + 1,
+            2 => HELD_AREA,
             _ => self.length(),
         }
     }
@@ -79,21 +84,21 @@ impl Dice {
     }
 
     pub fn seeded(&mut self, length: u64) -> String {
-        let seed = if self.chance(5) { 1_000_000 } else { self.below(1_000_001) };
+        let seed = if self.chance(5) { SEED_MOST } else { self.below(SEED_MOST + 1) };
         format!("{}:{}", length, seed)
     }
 
     pub fn pairs(&mut self) -> String {
         let count = match self.below(24) {
-            0 => 128,
-            1 => 130,
-            2 => 129,
-            3 => 127,
-            4 => self.pick(&[2200, 2199, 131, 132]),
-            5 => 2 * self.below(65),
-            6 => 1 + 2 * self.below(3),
-            7 => 126,
-            _ => 2 * self.below(4),
+            0 => TABLE,
+            1 => TABLE + ACTION,
+            2 => TABLE + 1,
+            3 => TABLE - 1,
+            4 => self.pick(&[HELD_TABLE, HELD_TABLE - 1, TABLE + 3, TABLE + 2 * ACTION]),
+            5 => ACTION * self.below(MAX_ACTIONS + 1),
+            6 => 1 + ACTION * self.below(3),
+            7 => TABLE - ACTION,
+            _ => ACTION * self.below(4),
         };
         self.seeded(count)
     }

@@ -3,17 +3,21 @@
 //!
 //! Written from document 01 and the page on the driver's script alone.
 
+mod answer;
 mod boundary;
 mod command;
 mod compare;
 mod dice;
 mod driver;
+mod line;
 mod log;
 mod make;
 mod model;
+mod place;
 mod script;
+mod sizes;
 mod status;
-mod table;
+mod tally;
 #[cfg(test)]
 mod tests;
 mod text;
@@ -25,6 +29,8 @@ const USAGE: &str = "usage:
   oracle play < SCRIPT       plays a script and prints the answers
   oracle make SEED CALLS     prints a seeded random script of about CALLS calls
   oracle table SEED CALLS    counts such a script's answers, call by call
+  oracle start               prints the lines that lend what the driver lends at
+                             its start, and that open
   oracle boundary            prints the fixed script of boundary cases
   oracle sweep               prints the fixed script of all small records
   oracle compare FIRST SEEDS CALLS DRIVER [WORD ..]
@@ -45,7 +51,7 @@ fn make(seed: u64, calls: u64, output: &mut dyn Write) -> io::Result<()> {
 }
 
 fn table(seed: u64, calls: u64, output: &mut dyn Write) -> io::Result<()> {
-    let mut tally = table::Tally::new();
+    let mut tally = tally::Tally::new();
     make::make(seed, calls, &mut io::sink(), &mut |made| tally.count(made))?;
     write!(output, "{}", tally.text())
 }
@@ -56,6 +62,7 @@ fn obey(words: &[String], output: &mut dyn Write) -> io::Result<End> {
     let numbers: Vec<u64> = words.iter().skip(1).map_while(|word| word.parse().ok()).collect();
     match (name, words.len(), &numbers[..]) {
         ("play", 1, _) => script::play(&mut io::stdin().lock(), output)?,
+        ("start", 1, _) => boundary::start(output)?,
         ("boundary", 1, _) => boundary::boundary(output)?,
         ("sweep", 1, _) => boundary::sweep(output)?,
         ("make", 3, [seed, calls]) => make(*seed, *calls, output)?,

@@ -4,6 +4,7 @@
 //! maker plays each line on its own model as it goes, so that it can continue
 //! sensibly (the right ticket, the due asking) as well as not.
 
+mod bad;
 mod episodes;
 mod lines;
 mod logs;
@@ -11,7 +12,11 @@ mod odd;
 mod statuses;
 
 use crate::dice::Dice;
+use crate::line;
+use crate::model::Record;
+use crate::place::Place;
 use crate::script::{Made, Player, Reply};
+use crate::sizes::BYTE_MOST;
 use std::io::{self, Write};
 
 /// What is told of each answered call.
@@ -23,12 +28,15 @@ pub struct Maker<'a> {
     output: &'a mut dyn Write,
     seen: Seen<'a>,
     calls: u64,
+    /// The bad lines that are picked from.
+    bad: Vec<String>,
 }
 
 /// Prints a script of about `calls` calls and tells `seen` of each answer.
 pub fn make(seed: u64, calls: u64, output: &mut dyn Write, seen: Seen) -> io::Result<()> {
     let dice = Dice::new(seed);
-    let mut maker = Maker { dice, player: Player::new(), output, seen, calls: 0 };
+    let bad = bad::all();
+    let mut maker = Maker { dice, player: Player::new(), output, seen, calls: 0, bad };
     maker.say(&format!("# seed {}, about {} calls", seed, calls))?;
     maker.run(3)?;
     while maker.calls < calls {
@@ -73,17 +81,32 @@ impl Maker<'_> {
     }
 
     fn right_sizes(&mut self) -> io::Result<()> {
-        let right = [("a", 4096), ("c", 4096), ("r", 4096), ("x", 4096), ("t", 128)];
-        for (i, (place, size)) in right.iter().enumerate() {
-            if self.player.driver.lent[i] != *size {
-                self.say(&format!("lend {} {}", place, size))?;
+        for place in Place::of_transaction() {
+            if self.lent(*place) != place.lent_at_start() {
+                self.lend(*place, place.lent_at_start())?;
             }
         }
-        if self.player.driver.lent[6] != self.player.driver.lent[7] && self.dice.chance(50) {
-            self.say("lend g 64")?;
-            self.say("lend s 64")?;
+        if self.lent(Place::Groups) != self.lent(Place::Status) && self.dice.chance(50) {
+            self.lend(Place::Groups, Place::Groups.lent_at_start())?;
+            self.lend(Place::Status, Place::Status.lent_at_start())?;
         }
         Ok(())
+    }
+
+    fn record(&self) -> &Record {
+        &self.player.driver.record
+    }
+
+    fn lent(&self, place: Place) -> u64 {
+        self.player.driver.lent(place)
+    }
+
+    fn lend(&mut self, place: Place, size: u64) -> io::Result<()> {
+        self.say(&line::lend(place, size))
+    }
+
+    fn put(&mut self, place: Place, index: u64, value: u64) -> io::Result<()> {
+        self.say(&line::put(place, index, value))
     }
 
     fn filling(&mut self) -> String {
@@ -93,15 +116,15 @@ impl Maker<'_> {
     /// A byte or word anywhere in an area or the table, often at the edge of
     /// what is lent, so that all of it is seen to move or to stay.
     fn stirring(&mut self) -> String {
-        let place = self.dice.pick(&["a", "c", "r", "x", "t"]);
-        let (edge, held) = if place == "t" { (128, 2200) } else { (4096, 5000) };
+        let place = self.dice.pick(Place::of_transaction());
+        let edge = place.lent_at_start();
         let index = match self.dice.below(4) {
             0 => edge - 1,
             1 => edge,
             2 => self.dice.below(edge),
-            _ => self.dice.below(held),
+            _ => self.dice.below(place.held()),
         };
-        format!("put {} {} {}", place, index, self.dice.below(256))
+        line::put(place, index, self.dice.below(BYTE_MOST + 1))
     }
 
     /// Plays `count` calls, most of them sensible.

@@ -3,23 +3,25 @@
 //! Written from the page on the driver's script alone. Decision: a comment is
 //! a comment however long it is.
 
-use crate::command::{self, Command, LINE_MOST};
+use crate::answer::Answered;
+use crate::command;
 use crate::driver::{Driver, Said};
-use crate::model::Answer;
+use crate::model::Name;
+use crate::sizes::LINE_MOST;
 use crate::text::answer_text;
 use std::io::{self, BufRead, Write};
 
 /// A call that was made: its name, the phase of the record before it where
 /// that was whole, and its answer.
 pub struct Made {
-    pub name: &'static str,
+    pub name: Name,
     pub phase: Option<u64>,
-    pub answer: Answer,
+    pub answered: Answered,
 }
 
 impl Made {
     pub fn text(&self) -> String {
-        answer_text(&self.answer)
+        answer_text(&self.answered)
     }
 }
 
@@ -63,15 +65,11 @@ impl Player {
             None => return Reply::Bad(self.lines),
             Some(command) => command,
         };
-        let name = match &command {
-            Command::Make(call) => call.name(),
-            _ => "",
-        };
         let record = &self.driver.record;
         let phase = if record.whole() { Some(record.phase) } else { None };
         match self.driver.obey(command) {
             Said::Nothing => Reply::Nothing,
-            Said::Answered(answer) => Reply::Answered(Made { name, phase, answer }),
+            Said::Answered(name, answered) => Reply::Answered(Made { name, phase, answered }),
             Said::Shown(lines) => Reply::Shown(lines),
         }
     }
@@ -90,7 +88,7 @@ fn next_line(input: &mut dyn BufRead, line: &mut Vec<u8>) -> io::Result<bool> {
         any = true;
         let end = piece.iter().position(|byte| *byte == b'\n');
         let part = &piece[..end.unwrap_or(piece.len())];
-        let room = LINE_MOST + 1 - line.len();
+        let room = LINE_MOST as usize + 1 - line.len();
         line.extend_from_slice(&part[..part.len().min(room)]);
         let used = end.map_or(piece.len(), |at| at + 1);
         input.consume(used);

@@ -2,52 +2,62 @@
 //!
 //! Written from document 01 alone.
 
-use crate::model::Call;
+use crate::answer::Refusal;
+use crate::model::Mark;
+use crate::place::Place;
 
-const LIVE: u8 = 1;
-const SETTLED: u8 = 2;
-const PENDING: u8 = 4;
-const LINKED: u8 = 1;
-const CANCELLED: u8 = 2;
-const INITIALIZED: u8 = 4;
+/// The bits of a group byte.
+pub const LIVE: u8 = 1;
+pub const SETTLED: u8 = 2;
+pub const PENDING: u8 = 4;
+pub const GROUP_BITS: u8 = LIVE | SETTLED | PENDING;
 
-/// The new status byte of an id, or the refusal.
-fn changed(call: &Call, group: u8, status: u8) -> Result<u8, u64> {
+/// The bits of a status byte.
+pub const LINKED: u8 = 1;
+pub const CANCELLED: u8 = 2;
+pub const INITIALIZED: u8 = 4;
+pub const FINISHED: u8 = 8;
+pub const STATUS_BITS: u8 = LINKED | CANCELLED | INITIALIZED | FINISHED;
+
+/// A group that is live, settled and not pending may be initialised.
+pub const READY: u8 = LIVE | SETTLED;
+
+fn sound(group: u8, status: u8) -> bool {
     let linked = status & LINKED != 0;
-    match call {
-        Call::Link { domain, .. } if *domain && group & LIVE != 0 && !linked => Ok(LINKED),
-        Call::Initialize { .. }
-            if linked && group & (LIVE | SETTLED | PENDING) == LIVE | SETTLED =>
-        {
-            Ok(status | INITIALIZED)
-        }
-        Call::Cancel { .. } if linked => Ok(status | CANCELLED),
-        _ => Err(13),
+    group <= GROUP_BITS && status <= STATUS_BITS && (status == 0 || linked)
+}
+
+fn allowed(mark: Mark, group: u8, status: u8) -> bool {
+    let linked = status & LINKED != 0;
+    match mark {
+        Mark::Link { domain } => domain && group & LIVE != 0 && !linked,
+        Mark::Initialize => linked && group & GROUP_BITS == READY,
+        Mark::Cancel => linked,
     }
 }
 
-/// Plays a status call and gives its answer's number.
-pub fn play(call: &Call, groups: &[u8], status: &mut [u8]) -> u64 {
-    if groups.len() != status.len() || !(1..=256).contains(&groups.len()) {
-        return 6;
+/// The status byte that a call leaves where it is allowed.
+fn marked(mark: Mark, status: u8) -> u8 {
+    match mark {
+        Mark::Link { .. } => LINKED,
+        Mark::Initialize => status | INITIALIZED,
+        Mark::Cancel => status | CANCELLED,
     }
-    let id = match call {
-        Call::Link { id, .. } | Call::Initialize { id } | Call::Cancel { id } => *id,
-        _ => unreachable!("not a status call"),
-    };
-    if id == 0 || id >= groups.len() as u64 {
-        return 13;
-    }
-    let index = id as usize;
-    let (group, old) = (groups[index], status[index]);
-    if group > 7 || old > 15 || (old != 0 && old & LINKED == 0) {
-        return 7;
-    }
-    match changed(call, group, old) {
-        Ok(new) => {
-            status[index] = new;
-            0
-        }
-        Err(number) => number,
-    }
+}
+
+/// Plays a status call on the bytes that are lent. An id that is refused for
+/// being past the end has no bytes; zeros stand for them.
+pub fn play(mark: Mark, id: u64, groups: &[u8], status: &mut [u8]) -> Result<(), Refusal> {
+    let ids = groups.len() as u64;
+    let at = id.min(ids) as usize;
+    let byte = |bytes: &[u8]| bytes.get(at).copied().unwrap_or(0);
+    let (group, old) = (byte(groups), byte(status));
+    Refusal::first(&[
+        (groups.len() != status.len() || !Place::Groups.fits(ids), Refusal::BadArea),
+        (id == 0 || id >= ids, Refusal::NoStatus),
+        (!sound(group, old), Refusal::Damaged),
+        (!allowed(mark, group, old), Refusal::NoStatus),
+    ])?;
+    status[at] = marked(mark, old);
+    Ok(())
 }

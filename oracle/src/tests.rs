@@ -1,10 +1,13 @@
 //! Tests: helpers that play lines and compare what is answered.
 
+mod answers;
 mod cases;
 mod scripts;
 mod shrinking;
 
-use crate::script;
+use crate::model::{Opening, Record};
+use crate::{line, script};
+use std::borrow::Borrow;
 
 fn play_bytes(text: &[u8]) -> Vec<String> {
     let mut output = Vec::new();
@@ -13,7 +16,7 @@ fn play_bytes(text: &[u8]) -> Vec<String> {
     text.lines().map(|line| line.to_string()).collect()
 }
 
-fn play(lines: &[&str]) -> Vec<String> {
+fn play<Line: Borrow<str>>(lines: &[Line]) -> Vec<String> {
     play_bytes(lines.join("\n").as_bytes())
 }
 
@@ -25,9 +28,20 @@ fn holds(pairs: &[(&str, &str)]) {
 }
 
 /// The record after some lines.
-fn record_after(lines: &[&str]) -> String {
-    let mut all = lines.to_vec();
-    all.push("show");
-    let said = play(&all);
-    said[said.len() - 5].clone()
+fn record_after<Line: Borrow<str>>(lines: &[Line]) -> Record {
+    let mut player = script::Player::new();
+    for line in lines {
+        player.hear(line.borrow().as_bytes());
+    }
+    player.driver.record
+}
+
+/// The opening at a revision and a serial.
+fn open(revision: u64, serial: u64, payload: &str) -> String {
+    line::open(Opening::at(revision, serial), payload)
+}
+
+/// The record of an opening at 0, 0, but staged.
+fn staged() -> Record {
+    Record { staged: true, ..Record::default() }
 }

@@ -20,10 +20,10 @@ use Rattle.step_ends.specs.Ending.{unrestored, recoverOwn, recoverRetainedOwn}
 use Rattle.calls.specs.Calls.{step}
 use Rattle.calls.specs.Calls.Work.{rollback}
 use Rattle.calls.specs.Calls.Call.{begin, ask, recover, recoverRetained}
-use Rattle.demands.proofs.Own.{own}
-use Rattle.demands.proofs.Reading.{whole-facts}
-use Rattle.demands.proofs.Moves.{turn}
-use Rattle.demands.proofs.Granting.{clash}
+use Rattle.demand_steps.proofs.Own.{own}
+use Rattle.demand_steps.proofs.Reading.{whole-facts}
+use Rattle.demand_steps.proofs.Moves.{turn}
+use Rattle.demand_chains.proofs.Granting.{clash}
 use Rattle.clauses.specs.Gaps.{RollbackAsked, BeginAnswer, RecoverAnswer}
 use Rattle.clauses.specs.Gaps.BeginAnswer.{pending, capacity, tooLong, tooMany, begins}
 use Rattle.clauses.proofs.Splitting.{Kept, fitting, by, on-step}

@@ -10,7 +10,8 @@ use Rattle.choice.proofs.Tests.{tests, both, test}
 use Rattle.areas.specs.Areas.{areaSize, sized, copied}
 use Rattle.batch.specs.Batch.{limit, tableSized, paired, pairsIn, stored}
 use Rattle.batch.proofs.Laws.{stored-identities}
-use Rattle.record.specs.Answers.{Told, refused}
+use Rattle.record.specs.Classes.{refused}
+use Rattle.record.specs.Answers.{Told}
 use Rattle.record.specs.Leaves.{Leaves}
 use Rattle.record.specs.Fields.{top}
 use Rattle.record.specs.declared.Record.{Record}
@@ -66,13 +67,13 @@ module _ (r : Record) (m : r .revision ≤ top) (w : whole r ≡ true) (c o : Li
   -- `pending_mut` and `work`, and what `structural_call` leaves
   module _ (new old : List ℕ) (s : sized c and sized o ≡ true) where
     replaced : {x : Told} {v : Leaves} → Lends r (sized c and sized o) x (c ∷ o ∷ []) (copied new c ∷ copied old o ∷ []) v →
-        (refused (x .number) ≡ false → Stores (length new) (length old) (x .state)) → refused (v .told .number) ≡ false → Stages new old v
+        (refused (x .class) ≡ false → Stores (length new) (length old) (x .state)) → refused (v .told .class) ≡ false → Stages new old v
     replaced x f h =
         let u = both s in
-        let k = of-told (λ t. refused (t .number) ≡ false → Stores (length new) (length old) (t .state)) x s f h in
+        let k = of-told (λ t. refused (t .class) ≡ false → Stores (length new) (length old) (t .state)) x s f h in
         stages c o new old _ _ (u .0) (u .1) (k .candidate-fits) (k .recovery-fits) (k .candidate) (k .recovery) (x .moves h)
 
-    pub edit-areas : refused (leavesOf r (Lending.edit c o new old) .told .number) ≡ false → Stages new old (leavesOf r (Lending.edit c o new old))
+    pub edit-areas : refused (leavesOf r (Lending.edit c o new old) .told .class) ≡ false → Stages new old (leavesOf r (Lending.edit c o new old))
     edit-areas = replaced (edit-lends r c o new old) (edit-stores r (length new) (length old) m w)
 
     pub report-structure-areas : (k : ℕ) (x : Outcome) → refused (leavesOf r (Lending.report (Stored.structured c o new old) k x) .told .number) ≡ false → Stages new old (leavesOf r (Lending.report (Stored.structured c o new old) k x))
@@ -82,7 +83,7 @@ module _ (r : Record) (m : r .revision ≤ top) (w : whole r ≡ true) (c o : Li
 module _ (r : Record) (t : List ℕ) (k : ℕ) (x : Outcome) (value : ℕ) where
   identified : {b : Bool} {y : Told} {v : Leaves} (i : ℕ) → Lends r b y (t ∷ []) (stored i value t ∷ []) v → SameIdentities t v
   identified {v = v} i l = record {
-    identities = λ j. test (refused (v .told .number)) (λ e. rw (l .stays e)) (λ e. rw (l .moves e) (stored-identities t i value j));
+    identities = λ j. test (refused (v .told .class)) (λ e. rw (l .stays e)) (λ e. rw (l .moves e) (stored-identities t i value j));
   }
 
   pub update-identities : SameIdentities t (leavesOf r (Lending.report (Stored.updated t value) k x))

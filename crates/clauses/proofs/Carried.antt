@@ -11,6 +11,7 @@ use Rattle.choice.specs.Pick.{_and_}
 use Rattle.phases.specs.Phases.{none, remove}
 use Rattle.areas.specs.Areas.{sized, copied}
 use Rattle.batch.specs.Batch.{tableSized, paired, pairsIn, stored}
+use Rattle.record.specs.Classes.{Class}
 use Rattle.record.specs.Answers.{Told}
 use Rattle.record.specs.Fields.{top}
 use Rattle.record.specs.Leaves.{Leaves}
@@ -46,7 +47,7 @@ abbrev Carries : (Told → Type 0) → Record → List ℕ → Bool → Told →
 Carries C r log fits t lent moved v = withLog fits log .sized ≡ true → v .told .number ≢ 12 → C (v .told) × Lends r fits t lent moved (unlogged v)
 
 module _ (r : Record) (m : r .revision ≤ top) (w : whole r ≡ true) (log : List ℕ) (h : sound log ≡ true) where
-  carried : (C : Told → Type 0) {written : ℕ → Bool} {kind : ℕ} {fits : Bool} {t : Told} {lent moved : List (List ℕ)} {inner v : Leaves} →
+  carried : (C : Told → Type 0) {written : Class → Bool} {kind : ℕ} {fits : Bool} {t : Told} {lent moved : List (List ℕ)} {inner v : Leaves} →
       Through written kind r log fits lent inner v → Lends r fits t lent moved inner → C t → Carries C r log fits t lent moved v
   carried C {fits = fits} {t = t} {lent = lent} {moved = moved} x l p z n =
       through (λ u. C (u .told) × Lends r fits t lent moved u) (x .ready z h) n (of-told C l (fit fits log z) p, l)

@@ -10,7 +10,8 @@ use Rattle.choice.specs.Pick.{pick, _or_}
 use Rattle.choice.proofs.Picks.{yes, no}
 use Rattle.choice.proofs.Tests.{tests, never, both, either, neither}
 use Rattle.areas.specs.Areas.{areaSize, long}
-use Rattle.record.specs.Answers.{Told, refusalNumber, refuse}
+use Rattle.record.specs.Classes.{refusalNumber}
+use Rattle.record.specs.Answers.{Told, refuse}
 use Rattle.record.specs.Fields.{top}
 use Rattle.record.specs.declared.Record.{Record}
 use Rattle.record.specs.declared.Refusal.{Refusal}
@@ -19,11 +20,11 @@ use Rattle.wholeness.specs.Whole.{whole, complete}
 use Rattle.step_ends.specs.Ending.{idleAt, commitOwn, unrestored, recoveredTo, recoverOwn, recoverRetainedOwn}
 use Rattle.calls.specs.Calls.{step}
 use Rattle.calls.specs.Calls.Call.{commit, recover, recoverRetained}
-use Rattle.demands.proofs.Own.{own}
-use Rattle.demands.proofs.Reading.{whole-facts}
-use Rattle.demands.proofs.Testing.{ranges}
-use Rattle.demands.proofs.Granting.{clash}
-use Rattle.demands.proofs.Reopening.{after-commit-opens}
+use Rattle.demand_steps.proofs.Own.{own}
+use Rattle.demand_steps.proofs.Reading.{whole-facts}
+use Rattle.demand_steps.proofs.Testing.{ranges}
+use Rattle.demand_chains.proofs.Granting.{clash}
+use Rattle.demand_steps.proofs.Reopening.{after-commit-opens}
 use Rattle.clauses.specs.Keeping.{gained}
 use Rattle.clauses.specs.Ending.{CanCommit, CommitClauses, CanRecover, RecoverClauses}
 use Rattle.clauses.proofs.Splitting.{Kept, refusal-real, performed-fine, by, on-step}

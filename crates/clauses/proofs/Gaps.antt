@@ -25,9 +25,9 @@ use Rattle.calls.specs.Calls.{step}
 use Rattle.calls.specs.Calls.Work.{structure, update}
 use Rattle.calls.specs.Calls.Report.{structured, updated, rolledBack}
 use Rattle.calls.specs.Calls.Call.{ask, report}
-use Rattle.demands.proofs.Own.{own}
-use Rattle.demands.proofs.Granting.{clash}
-use Rattle.demands.proofs.Moves.{choice}
+use Rattle.demand_steps.proofs.Own.{own}
+use Rattle.demand_chains.proofs.Granting.{clash}
+use Rattle.demand_steps.proofs.Moves.{choice}
 use Rattle.clauses.specs.Gaps.{Succeeds, StructureAsked, AtFinished}
 use Rattle.clauses.proofs.Splitting.{Kept, too-long, by, on-step}
 use Rattle.clauses.proofs.Onward.{no-successor, ended, exclusive, onwards}

@@ -10,10 +10,10 @@ use Rattle.choice.specs.Pick.{pick}
 use Rattle.phases.specs.Phases.{remove, adopt, recoverRemove}
 use Rattle.record.specs.Answers.{said}
 use Rattle.record.specs.declared.Outcome.the-variants as O
-use Rattle.demands.specs.Watching.{Item, Watch, lists, reported}
-use Rattle.demands.specs.Watching.Item.{unknown}
-use Rattle.demands.proofs.Moves.{Along}
-use Rattle.demands.proofs.Moves.Along.{start, close, back}
+use Rattle.demand_steps.specs.Watching.{Item, Watch, lists, reported}
+use Rattle.demand_steps.specs.Watching.Item.{unknown}
+use Rattle.demand_steps.proofs.Moves.{Along}
+use Rattle.demand_steps.proofs.Moves.Along.{start, close, back}
 use Rattle.clauses.specs.Chains.{forwardStages, recoveryStages, stageOf, stages, Steps}
 
 -- one more report

@@ -18,14 +18,14 @@ use Rattle.record.specs.declared.Live.{Live}
 use Rattle.wholeness.specs.Whole.{whole}
 use Rattle.step_reports.specs.Done.{advanced}
 use Rattle.step_reports.specs.Reports.{storing}
-use Rattle.demands.proofs.Leaf.{Apart}
-use Rattle.demands.proofs.Facts.{Calm, tests, byCase}
-use Rattle.demands.proofs.Facts.Calm.{on, off}
-use Rattle.demands.proofs.Reading.{whole-facts, apart-of}
-use Rattle.demands.proofs.Testing.{ranges, right}
-use Rattle.demands.proofs.Wholeness.{left, successor-test}
-use Rattle.demands.proofs.Tickets.{onStructure}
-use Rattle.demands.proofs.Moves.{goes-up, goes-down}
+use Rattle.demand_steps.proofs.Leaf.{Apart}
+use Rattle.demand_steps.proofs.Facts.{Calm, tests, byCase}
+use Rattle.demand_steps.proofs.Facts.Calm.{on, off}
+use Rattle.demand_steps.proofs.Reading.{whole-facts, apart-of}
+use Rattle.demand_steps.proofs.Testing.{ranges, right}
+use Rattle.demand_steps.proofs.Wholeness.{left, successor-test}
+use Rattle.demand_steps.proofs.Tickets.{onStructure}
+use Rattle.demand_steps.proofs.Moves.{goes-up, goes-down}
 use Rattle.clauses.specs.Structure.{Stepping, Advances}
 use Rattle.clauses.proofs.Splitting.{nope}
 

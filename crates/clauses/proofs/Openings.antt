@@ -5,7 +5,7 @@ use mathlib.Core.Bool.{Bool, true}
 use mathlib.Core.List.{List, [], _∷_}
 use native.Mathlib.Omega.{arith}
 use lib.ListN.{length, getD, replicate}
-use borrow.Author.Tests.{le-ltb, ltb-false, not-true, not-false}
+use borrow.Author.Tests.{ltb-false, not-true, not-false}
 use Rattle.choice.proofs.Picks.{no, picked}
 use Rattle.choice.proofs.Tests.{tests, both}
 use Rattle.areas.specs.Areas.{areaSize, sized, copied, long}
@@ -15,13 +15,14 @@ use Rattle.record.specs.Fields.{top}
 use Rattle.wholeness.specs.Whole.{whole}
 use Rattle.step_begins.specs.Opening.{opening, openStep}
 use Rattle.step_ends.specs.Ending.{idleAt}
-use Rattle.log.specs.Log.{logSized, roomOf, blank}
+use Rattle.log.specs.Log.{headWords, blank}
+use Rattle.events.proofs.Soundness.{blank-is}
 use Rattle.noting.specs.Recorded.{withLog}
 use Rattle.calls.specs.Lending.{Lending, leavesOf, unopened}
 use Rattle.noting.specs.Through.{leavesThrough}
-use Rattle.demands.proofs.Wholeness.{whole-test}
-use Rattle.demands.proofs.Advancing.{idles}
-use Rattle.demands.proofs.Granting.{clash}
+use Rattle.demand_steps.proofs.Wholeness.{whole-test}
+use Rattle.demand_steps.proofs.Advancing.{idles}
+use Rattle.demand_chains.proofs.Granting.{clash}
 use Rattle.clauses.specs.Staging.{OpenClauses}
 use Rattle.clauses.specs.Lending.{Opens}
 use Rattle.clauses.specs.Recording.{OpenRecorded}
@@ -81,10 +82,6 @@ module _ (v s : ℕ) (m : v ≤ top) (a given : List ℕ) where
   zeros (suc n) zero = refl
   zeros (suc n) (suc i) = zeros n i
 
-  blank-is : (log : List ℕ) → logSized (length log) ≡ true → blank log ≡ 0 ∷ 4 ∷ roomOf (length log) ∷ 0 ∷ replicate (length log - 4) 0
-  unfolding blank logSized
-  blank-is log e = let x = both (both e .0) in sym (no _ (le-ltb (length log) 8 (omega (tests, x .0))) refl)
-
   pub open-recorded : (log : List ℕ) → leavesThrough unopened log (Lending.openAt v s a given) .told .number ≡ 0 → OpenRecorded v given (leavesThrough unopened log (Lending.openAt v s a given))
   unfolding leavesThrough withLog
   open-recorded log h =
@@ -97,5 +94,5 @@ module _ (v s : ℕ) (m : v ≤ top) (a given : List ℕ) where
         c273 = x .c109 h;
         c274 = x .c110;
         c275 = refl;
-        c275-words = zeros (length log - 4);
+        c275-words = zeros (length log - headWords);
       }

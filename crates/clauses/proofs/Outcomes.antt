@@ -19,7 +19,7 @@ use Rattle.step_reports.specs.Reports.{storing, reported, reportStructureOwn}
 use Rattle.calls.specs.Calls.{step}
 use Rattle.calls.specs.Calls.Report.{structured, updated, rolledBack}
 use Rattle.calls.specs.Calls.Call.{report}
-use Rattle.demands.proofs.Own.{live, own, whole-step}
+use Rattle.demand_steps.proofs.Own.{live, own, whole-step}
 use Rattle.clauses.specs.Polls.{ReportAnswers}
 use Rattle.clauses.proofs.Splitting.{too-long}
 

@@ -8,7 +8,8 @@ use borrow.Author.Tests.{not-true, not-false}
 use Rattle.choice.specs.Pick.{_and_}
 use Rattle.choice.proofs.Picks.{yes, no, picked}
 use Rattle.choice.proofs.Tests.{both}
-use Rattle.record.specs.Answers.{Told, refused, refusalNumber, refuse}
+use Rattle.record.specs.Classes.{Class, refused, refusalNumber, callWritten}
+use Rattle.record.specs.Answers.{Told, refuse}
 use Rattle.record.specs.Leaves.{Leaves, leaves, moving}
 use Rattle.record.specs.declared.Record.{Record}
 use Rattle.record.specs.declared.Refusal.{Refusal}
@@ -18,15 +19,14 @@ use Rattle.wholeness.specs.Whole.{whole}
 use Rattle.log.specs.Log.{sound, appended}
 use Rattle.noting.specs.Recorded.{withLog, recorded}
 use Rattle.calls.specs.Calls.{Call, stepWith}
-use Rattle.calls.specs.Kinds.{callWritten}
-use Rattle.demands.proofs.Unseen.{quiet}
-use Rattle.demands.proofs.Testing.{not-yes}
-use Rattle.demands.proofs.Granting.{clash}
+use Rattle.demand_steps.proofs.Unseen.{quiet}
+use Rattle.demand_steps.proofs.Testing.{not-yes}
+use Rattle.demand_chains.proofs.Granting.{clash}
 use Rattle.clauses.specs.Recording.{unlogged, Recorded, Through}
 use Rattle.clauses.proofs.Refusals.{refused-equal}
 
 -- any step that a refusal leaves as it was
-pub records : (written : ℕ → Bool) (kind : ℕ) (t : Told) (r : Record) (log : List ℕ) (lent moved : List (List ℕ)) → (refused (t .number) ≡ true → t .state ≡ r) →
+pub records : (written : Class → Bool) (kind : ℕ) (t : Told) (r : Record) (log : List ℕ) (lent moved : List (List ℕ)) → (refused (t .class) ≡ true → t .state ≡ r) →
     Recorded written kind r log lent (moving t lent moved) (recorded written kind t r log lent moved)
 unfolding recorded appended
 records written kind t r log lent moved f =
@@ -55,13 +55,12 @@ records written kind t r log lent moved f =
     }))
 
 -- what holds of a call without a log holds through one, the log aside
-pub through : (P : Leaves → Type 0) {written : ℕ → Bool} {kind : ℕ} {r : Record} {log : List ℕ} {lent : List (List ℕ)} {inner v : Leaves} →
+pub through : (P : Leaves → Type 0) {written : Class → Bool} {kind : ℕ} {r : Record} {log : List ℕ} {lent : List (List ℕ)} {inner v : Leaves} →
     Recorded written kind r log lent inner v → v .told .number ≢ 12 → P inner → P (unlogged v)
 through P x n p = subst P (sym (x .c264 n)) p
 
 -- in the calls that are written only where they answer 0, no refusal is
 pub refused-unwritten : (n : ℕ) → refused n ≡ true → callWritten n ≡ false
-unfolding callWritten
 refused-unwritten n e = quiet n e .done
 
 -- what joins the log has the right sizes itself
@@ -69,7 +68,7 @@ pub fit : (fits : Bool) (log : List ℕ) → withLog fits log .sized ≡ true �
 unfolding withLog
 fit fits log h = both h .0
 
-module _ (written : ℕ → Bool) (kind : ℕ) (r : Record) (log : List ℕ) (c : Call) (fits : Bool) (lent moved : List (List ℕ)) where
+module _ (written : Class → Bool) (kind : ℕ) (r : Record) (log : List ℕ) (c : Call) (fits : Bool) (lent moved : List (List ℕ)) where
   -- a refusal that is not written leaves all as it was
   silent : (why : Refusal) → written (refusalNumber why) ≡ false → recorded written kind (refuse why r) r log lent moved ≡ leaves (refuse why r) (log ∷ lent)
   unfolding recorded

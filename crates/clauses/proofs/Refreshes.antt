@@ -18,9 +18,9 @@ use Rattle.step_ends.specs.Ending.{refreshOwn}
 use Rattle.step_stamps.specs.Stamping.{passes}
 use Rattle.calls.specs.Calls.{step}
 use Rattle.calls.specs.Calls.Call.{refresh, stamp, check}
-use Rattle.demands.proofs.Own.{own}
-use Rattle.demands.proofs.Testing.{not-yes}
-use Rattle.demands.proofs.Granting.{clash}
+use Rattle.demand_steps.proofs.Own.{own}
+use Rattle.demand_steps.proofs.Testing.{not-yes}
+use Rattle.demand_chains.proofs.Granting.{clash}
 use Rattle.clauses.specs.Ending.{RefreshClauses, StampClauses, CheckClauses}
 use Rattle.clauses.proofs.Splitting.{Kept, refusal-real, performed-fine, by, on-step}
 

@@ -7,7 +7,8 @@ use lib.Dec.{ltb}
 use Rattle.choice.specs.Pick.{pick}
 use Rattle.choice.proofs.Picks.{picked}
 use Rattle.choice.proofs.Tests.{tests, both, test}
-use Rattle.record.specs.Answers.{Told, refused}
+use Rattle.record.specs.Classes.{refused}
+use Rattle.record.specs.Answers.{Told}
 use Rattle.record.specs.declared.Record.{Record}
 use Rattle.record.specs.declared.Outcome.{Outcome}
 use Rattle.record.specs.declared.Outcome.the-variants as O
@@ -21,17 +22,16 @@ use Rattle.calls.specs.Calls.{Call, step}
 use Rattle.calls.specs.Calls.Work.{structure, update, rollback}
 use Rattle.calls.specs.Calls.Report.{structured, updated, rolledBack}
 use Rattle.calls.specs.Calls.Call.{begin, ask, report, edit, commit, recover, recoverRetained, refresh, stamp, check}
-use Rattle.demands.proofs.Own.{own, whole-step, damaged-step}
+use Rattle.demand_steps.proofs.Own.{own, whole-step, damaged-step}
 use Rattle.clauses.proofs.Splitting.{performed-fine}
 
 -- a number over 13 is no refusal
 fine : {P : Type 0} (n : ℕ) → ltb 13 n ≡ true → refused n ≡ true → P
-unfolding refused
 fine n h e = absurd (omega (tests, both e))
 
 module _ (r : Record) where
   abbrev Equal : Told → Type 0
-  Equal t = refused (t .number) ≡ true → t .state ≡ r
+  Equal t = refused (t .class) ≡ true → t .state ≡ r
 
   -- a test
   one : (x y : Told) (b : Bool) → Equal x → Equal y → Equal (pick b x y)
@@ -62,7 +62,7 @@ module _ (r : Record) where
   equal (check domain d v) = one _ _ _ (λ e. refl) (λ e. refl)
 
   -- demand 1: "A refusal .. returns the record equal"
-  pub refused-equal : (c : Call) → refused (step r c .number) ≡ true → step r c .state ≡ r
+  pub refused-equal : (c : Call) → refused (step r c .class) ≡ true → step r c .state ≡ r
   refused-equal c = test (whole r) (λ w. rw (whole-step r c w) (equal c)) (λ w. rw (damaged-step r c w) (λ e. refl))
 
   -- "`wf` preconditions answer 7"

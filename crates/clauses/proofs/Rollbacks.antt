@@ -21,10 +21,10 @@ use Rattle.calls.specs.Calls.{step}
 use Rattle.calls.specs.Calls.Work.{rollback}
 use Rattle.calls.specs.Calls.Report.{rolledBack}
 use Rattle.calls.specs.Calls.Call.{ask, report}
-use Rattle.demands.proofs.Own.{own}
-use Rattle.demands.proofs.Reading.{whole-facts}
-use Rattle.demands.proofs.Testing.{ranges}
-use Rattle.demands.proofs.Tickets.{onRollback}
+use Rattle.demand_steps.proofs.Own.{own}
+use Rattle.demand_steps.proofs.Reading.{whole-facts}
+use Rattle.demand_steps.proofs.Testing.{ranges}
+use Rattle.demand_steps.proofs.Tickets.{onRollback}
 use Rattle.clauses.specs.Keeping.{gained, SameStaged, Framed}
 use Rattle.clauses.specs.Polls.{unfinished, RollbackClauses}
 use Rattle.clauses.proofs.Splitting.{Kept, by, on-step}

@@ -13,19 +13,19 @@ use Rattle.record.specs.declared.Record.{Record}
 use Rattle.step_begins.specs.Opening.{openStep}
 use Rattle.calls.specs.Calls.{step}
 use Rattle.calls.specs.Calls.Call.{recover}
-use Rattle.demands.specs.Sending.{Sent, afterSent, heardSent}
-use Rattle.demands.specs.Watching.{Watch, watch, unwatched}
-use Rattle.demands.specs.Plans.{plannedBack, backAt, firsts}
-use Rattle.demands.specs.Turning.{back, untouched}
-use Rattle.demands.proofs.Facts.{tests}
-use Rattle.demands.proofs.Course.{Course}
-use Rattle.demands.proofs.Course.Course.{ahead, behind}
-use Rattle.demands.proofs.Chain.{Good}
-use Rattle.demands.proofs.Calming.{range}
-use Rattle.demands.proofs.Wholeness.{whole-test}
-use Rattle.demands.proofs.Exactly.{backward-law}
-use Rattle.demands.proofs.Recovering.{back-law, early-law}
-use Rattle.demands.proofs.Theorems.{good}
+use Rattle.demand_chains.specs.Sending.{Sent, afterSent, heardSent}
+use Rattle.demand_steps.specs.Watching.{Watch, watch, unwatched}
+use Rattle.demand_chains.specs.Plans.{plannedBack, backAt, firsts}
+use Rattle.demand_chains.specs.Turning.{back, untouched}
+use Rattle.demand_steps.proofs.Facts.{tests}
+use Rattle.demand_chains.proofs.Course.{Course}
+use Rattle.demand_chains.proofs.Course.Course.{ahead, behind}
+use Rattle.demand_chains.proofs.Chain.{Good}
+use Rattle.demand_steps.proofs.Calming.{range}
+use Rattle.demand_steps.proofs.Wholeness.{whole-test}
+use Rattle.demand_chains.proofs.Exactly.{backward-law}
+use Rattle.demand_chains.proofs.Recovering.{back-law, early-law}
+use Rattle.demand_chains.proofs.Theorems.{good}
 use Rattle.clauses.specs.Chains.{Undone}
 use Rattle.clauses.proofs.Endings.{recover-clauses}
 

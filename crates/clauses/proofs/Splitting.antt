@@ -9,16 +9,17 @@ use Rattle.choice.specs.Pick.{pick, _and_, _or_}
 use Rattle.choice.proofs.Picks.{picked}
 use Rattle.choice.proofs.Tests.{tests, never, either, neither, eqb-ne}
 use Rattle.areas.specs.Areas.{areaSize, long}
-use Rattle.record.specs.Answers.{Told, refused, refusalNumber}
+use Rattle.record.specs.Classes.{refused, refusalNumber}
+use Rattle.record.specs.Answers.{Told}
 use Rattle.record.specs.Fields.{top}
 use Rattle.record.specs.declared.Record.{Record}
 use Rattle.record.specs.declared.Refusal.{Refusal}
 use Rattle.record.proofs.Saying.{refused-number}
 use Rattle.wholeness.specs.Whole.{whole}
 use Rattle.calls.specs.Calls.{Call, step}
-use Rattle.demands.proofs.Own.{own, whole-step}
-use Rattle.demands.proofs.Unseen.{quiet}
-use Rattle.demands.proofs.Chain.{whole-kept}
+use Rattle.demand_steps.proofs.Own.{own, whole-step}
+use Rattle.demand_steps.proofs.Unseen.{quiet}
+use Rattle.demand_chains.proofs.Chain.{whole-kept}
 
 -- a test that does not hold
 pub nope : {P : Type 0} → false ≡ true → P
@@ -30,11 +31,11 @@ refusal-real why = eqb-ne _ _ (quiet _ (refused-number why) .done)
 
 -- and the answer 0 is none
 pub performed-fine : {P : Type 0} → refused 0 ≡ true → P
-unfolding refused _and_
+unfolding _and_
 performed-fine e = nope e
 
 pub performed-real : {n : ℕ} → n ≡ 0 → refused n ≡ false
-unfolding refused _and_
+unfolding _and_
 performed-real e = rw e
 
 -- one of two payloads is over 4,096, or neither

@@ -20,20 +20,20 @@ use Rattle.step_reports.specs.Done.{advanced, leaving}
 use Rattle.step_reports.specs.Reports.{storing}
 use Rattle.step_ends.specs.Ending.{idleAt}
 use Rattle.calls.specs.Calls.{Call}
-use Rattle.demands.specs.Sending.{Sent, afterSent, heardSent}
-use Rattle.demands.specs.Watching.{Watch, settles, applies, undoes, reported, sees, watch, unwatched}
-use Rattle.demands.specs.Watching.Item.{settle, apply, undo}
-use Rattle.demands.proofs.Leaf.{Leaf}
-use Rattle.demands.proofs.Leaf.Leaf.{kept, began, beganStructural, structureAsked, updateEnded, updateAsked, rollbackEnded, turnedEmpty, turnedAsked, waited, waitedStoring, went, updateLast, updateMore, undoLast, undoMore, edited, committed, recovered, restored, refreshed}
-use Rattle.demands.proofs.Facts.{Whole, byCase}
-use Rattle.demands.proofs.Testing.{ranges}
-use Rattle.demands.proofs.Tickets.{is-structure, is-update, is-rollback, onStructure}
-use Rattle.demands.proofs.Wholeness.{successor-test}
-use Rattle.demands.proofs.Moves.{goes-up, goes-down, inAlong}
-use Rattle.demands.proofs.Noting.{Tied, note-ahead, note-behind}
-use Rattle.demands.proofs.Sending.{sent-leaf}
-use Rattle.demands.proofs.Chain.{Good, good-leaf}
-use Rattle.demands.proofs.Theorems.{good}
+use Rattle.demand_chains.specs.Sending.{Sent, afterSent, heardSent}
+use Rattle.demand_steps.specs.Watching.{Watch, settles, applies, undoes, reported, sees, watch, unwatched}
+use Rattle.demand_steps.specs.Watching.Item.{settle, apply, undo}
+use Rattle.demand_steps.proofs.Leaf.{Leaf}
+use Rattle.demand_steps.proofs.Leaf.Leaf.{kept, began, beganStructural, structureAsked, updateEnded, updateAsked, rollbackEnded, turnedEmpty, turnedAsked, waited, waitedStoring, went, updateLast, updateMore, undoLast, undoMore, edited, committed, recovered, restored, refreshed}
+use Rattle.demand_steps.proofs.Facts.{Whole, byCase}
+use Rattle.demand_steps.proofs.Testing.{ranges}
+use Rattle.demand_steps.proofs.Tickets.{is-structure, is-update, is-rollback, onStructure}
+use Rattle.demand_steps.proofs.Wholeness.{successor-test}
+use Rattle.demand_steps.proofs.Moves.{goes-up, goes-down, inAlong}
+use Rattle.demand_chains.proofs.Noting.{Tied, note-ahead, note-behind}
+use Rattle.demand_chains.proofs.Sending.{sent-leaf}
+use Rattle.demand_chains.proofs.Chain.{Good, good-leaf}
+use Rattle.demand_chains.proofs.Theorems.{good}
 use Rattle.clauses.specs.Chains.{stageOf, Steps, Listed}
 use Rattle.clauses.proofs.Openings.{open-clauses}
 use Rattle.clauses.proofs.Listing.{one-more, forth, away, unlisted}

@@ -8,7 +8,8 @@ use Rattle.choice.specs.Pick.{pick}
 use Rattle.choice.proofs.Picks.{yes, no}
 use Rattle.choice.proofs.Tests.{tests, never, eqb-ne}
 use Rattle.phases.specs.Phases.{none, remove}
-use Rattle.record.specs.Answers.{Told, refusalNumber, answer, refuse}
+use Rattle.record.specs.Classes.{refusalNumber}
+use Rattle.record.specs.Answers.{Told, answer, refuse}
 use Rattle.record.specs.Fields.{top, withLengths}
 use Rattle.record.specs.declared.Record.{Record}
 use Rattle.record.specs.declared.Answer.the-variants.{Done}
@@ -19,9 +20,9 @@ use Rattle.wholeness.specs.Whole.{whole}
 use Rattle.step_begins.specs.Beginning.{firstPhase, begun, beginOwn, editOwn}
 use Rattle.calls.specs.Calls.{step}
 use Rattle.calls.specs.Calls.Call.{begin, edit}
-use Rattle.demands.proofs.Own.{own}
-use Rattle.demands.proofs.Classify.{first, first-structural}
-use Rattle.demands.proofs.Granting.{clash}
+use Rattle.demand_steps.proofs.Own.{own}
+use Rattle.demand_steps.proofs.Classify.{first, first-structural}
+use Rattle.demand_chains.proofs.Granting.{clash}
 use Rattle.clauses.specs.Keeping.{gained}
 use Rattle.clauses.specs.Staging.{CanBegin, BeginClauses, EditClauses}
 use Rattle.clauses.proofs.Splitting.{Kept, refusal-real, performed-fine, too-long, fitting, by, on-step}

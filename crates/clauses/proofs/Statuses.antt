@@ -17,8 +17,8 @@ use Rattle.status.specs.Status.{StatusCall, Marks, leavesMarks, linked, bytesSo
 use Rattle.status.specs.Status.StatusCall.{initialize}
 use Rattle.status.specs.declared.Entry.{Entry}
 use Rattle.status.specs.declared.Entry.the-variants.{At, No}
-use Rattle.demands.proofs.Testing.{right}
-use Rattle.demands.proofs.Granting.{clash}
+use Rattle.demand_steps.proofs.Testing.{right}
+use Rattle.demand_chains.proofs.Granting.{clash}
 use Rattle.clauses.specs.Status.{Place, MarkClauses, Initializes, Cancels}
 use Rattle.clauses.proofs.Splitting.{refusal-real}
 

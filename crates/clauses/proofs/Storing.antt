@@ -7,7 +7,8 @@ use Rattle.phases.specs.Phases.{successor}
 use Rattle.phases.specs.declared.Next.{Next}
 use Rattle.phases.specs.declared.Next.the-variants.{To, Nowhere}
 use Rattle.areas.specs.Areas.{long}
-use Rattle.record.specs.Answers.{Told, refused, refuse}
+use Rattle.record.specs.Classes.{refused}
+use Rattle.record.specs.Answers.{Told, refuse}
 use Rattle.record.specs.Fields.{top, spent}
 use Rattle.record.specs.declared.Record.{Record}
 use Rattle.record.specs.declared.Outcome.{Outcome}
@@ -22,8 +23,8 @@ use Rattle.step_reports.specs.Reports.{storing, reported, reportStructureOwn}
 use Rattle.calls.specs.Calls.{step}
 use Rattle.calls.specs.Calls.Report.{structured}
 use Rattle.calls.specs.Calls.Call.{report, edit}
-use Rattle.demands.proofs.Own.{own}
-use Rattle.demands.proofs.Granting.{clash}
+use Rattle.demand_steps.proofs.Own.{own}
+use Rattle.demand_chains.proofs.Granting.{clash}
 use Rattle.clauses.specs.Keeping.{Stores}
 use Rattle.clauses.proofs.Splitting.{Kept, fitting, by, on-step}
 
@@ -35,7 +36,7 @@ onward-stores Nowhere x = x
 
 module _ (c o : ℕ) where
   abbrev Clauses : Told → Type 0
-  Clauses t = refused (t .number) ≡ false → Stores c o (t .state)
+  Clauses t = refused (t .class) ≡ false → Stores c o (t .state)
 
   refuses : (r : Record) (why : Refusal) → Clauses (refuse why r)
   refuses r why e = clash _ (refused-number why) e

@@ -22,10 +22,10 @@ use Rattle.calls.specs.Calls.{step}
 use Rattle.calls.specs.Calls.Work.{structure}
 use Rattle.calls.specs.Calls.Report.{structured}
 use Rattle.calls.specs.Calls.Call.{ask, report}
-use Rattle.demands.proofs.Own.{own}
-use Rattle.demands.proofs.Reading.{whole-facts, apart-of}
-use Rattle.demands.proofs.Testing.{ranges}
-use Rattle.demands.proofs.Granting.{clash}
+use Rattle.demand_steps.proofs.Own.{own}
+use Rattle.demand_steps.proofs.Reading.{whole-facts, apart-of}
+use Rattle.demand_steps.proofs.Testing.{ranges}
+use Rattle.demand_chains.proofs.Granting.{clash}
 use Rattle.clauses.specs.Keeping.{SameBatch, Framed}
 use Rattle.clauses.specs.Polls.{unfinished}
 use Rattle.clauses.specs.Structure.{StructureClauses, Advances}

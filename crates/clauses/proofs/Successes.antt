@@ -14,19 +14,19 @@ use Rattle.wholeness.specs.Whole.{complete}
 use Rattle.step_begins.specs.Opening.{openStep}
 use Rattle.calls.specs.Calls.{step}
 use Rattle.calls.specs.Calls.Call.{commit}
-use Rattle.demands.specs.Sending.{Sent, afterSent, heardSent}
-use Rattle.demands.specs.Watching.{Item, Watch, watch, unwatched}
-use Rattle.demands.specs.Plans.{planAt, firsts}
-use Rattle.demands.proofs.Facts.{Stage, tests, byCase}
-use Rattle.demands.proofs.Facts.Stage.{flat, flatBack, before, updating, undoing, backing}
-use Rattle.demands.proofs.Testing.{ranges}
-use Rattle.demands.proofs.Course.{Kind, Course}
-use Rattle.demands.proofs.Course.Kind.{updateOnly, structural}
-use Rattle.demands.proofs.Course.Course.{ahead, behind}
-use Rattle.demands.proofs.Chain.{Good}
-use Rattle.demands.proofs.Calming.{range}
-use Rattle.demands.proofs.Wholeness.{whole-test}
-use Rattle.demands.proofs.Theorems.{good}
+use Rattle.demand_chains.specs.Sending.{Sent, afterSent, heardSent}
+use Rattle.demand_steps.specs.Watching.{Item, Watch, watch, unwatched}
+use Rattle.demand_chains.specs.Plans.{planAt, firsts}
+use Rattle.demand_steps.proofs.Facts.{Stage, tests, byCase}
+use Rattle.demand_steps.proofs.Facts.Stage.{flat, flatBack, before, updating, undoing, backing}
+use Rattle.demand_steps.proofs.Testing.{ranges}
+use Rattle.demand_chains.proofs.Course.{Kind, Course}
+use Rattle.demand_chains.proofs.Course.Kind.{updateOnly, structural}
+use Rattle.demand_chains.proofs.Course.Course.{ahead, behind}
+use Rattle.demand_chains.proofs.Chain.{Good}
+use Rattle.demand_steps.proofs.Calming.{range}
+use Rattle.demand_steps.proofs.Wholeness.{whole-test}
+use Rattle.demand_chains.proofs.Theorems.{good}
 use Rattle.clauses.specs.Successes.{isUpdate, successes}
 use Rattle.clauses.proofs.Endings.{commit-clauses}
 

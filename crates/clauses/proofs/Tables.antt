@@ -12,11 +12,11 @@ use Rattle.record.specs.declared.Live.{Live}
 use Rattle.record.specs.declared.Live.the-variants.{None}
 use Rattle.wholeness.specs.Whole.{whole}
 use Rattle.wholeness.proofs.Facts.{parts}
-use Rattle.demands.proofs.Facts.{Stage, Calm, tests}
-use Rattle.demands.proofs.Facts.Stage.{flat, flatBack, before, updating, after, undoing, backing}
-use Rattle.demands.proofs.Facts.Calm.{on, off}
-use Rattle.demands.proofs.Reading.{whole-facts}
-use Rattle.demands.proofs.Calming.{room}
+use Rattle.demand_steps.proofs.Facts.{Stage, Calm, tests}
+use Rattle.demand_steps.proofs.Facts.Stage.{flat, flatBack, before, updating, after, undoing, backing}
+use Rattle.demand_steps.proofs.Facts.Calm.{on, off}
+use Rattle.demand_steps.proofs.Reading.{whole-facts}
+use Rattle.demand_steps.proofs.Calming.{room}
 use Rattle.clauses.specs.Tables.{phases, numberOf, successors, boundaries, Protocol, WellFormed}
 
 pub successor-table : map (λ p. numberOf (successor p)) phases ≡ successors

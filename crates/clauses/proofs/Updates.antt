@@ -23,12 +23,12 @@ use Rattle.calls.specs.Calls.{step}
 use Rattle.calls.specs.Calls.Work.{update}
 use Rattle.calls.specs.Calls.Report.{updated}
 use Rattle.calls.specs.Calls.Call.{ask, report}
-use Rattle.demands.proofs.Own.{own}
-use Rattle.demands.proofs.Facts.{tests}
-use Rattle.demands.proofs.Reading.{whole-facts}
-use Rattle.demands.proofs.Wholeness.{updates-test}
-use Rattle.demands.proofs.Tickets.{onUpdate}
-use Rattle.demands.proofs.Granting.{clash}
+use Rattle.demand_steps.proofs.Own.{own}
+use Rattle.demand_steps.proofs.Facts.{tests}
+use Rattle.demand_steps.proofs.Reading.{whole-facts}
+use Rattle.demand_steps.proofs.Wholeness.{updates-test}
+use Rattle.demand_steps.proofs.Tickets.{onUpdate}
+use Rattle.demand_chains.proofs.Granting.{clash}
 use Rattle.clauses.specs.Keeping.{gained, SameStaged, Framed}
 use Rattle.clauses.specs.Polls.{unfinished, UpdateClauses}
 use Rattle.clauses.proofs.Splitting.{Kept, nope, by, on-step}

@@ -6,9 +6,9 @@ use mathlib.Core.List.{List, [], _∷_, _++_}
 use lib.ListN.{take}
 use Rattle.phases.specs.Phases.{remove, settleRemoved, mount, settleMounted, adopt, recoverRemove, recoverSettleRemoved, recoverMount, recoverSettleMounted}
 use Rattle.record.specs.declared.Record.{Record}
-use Rattle.demands.specs.Watching.{Item, Watch}
-use Rattle.demands.specs.Watching.Item.{settle, apply, undo, unknown}
-use Rattle.demands.specs.Plans.{plannedBack, backAt, firsts}
+use Rattle.demand_steps.specs.Watching.{Item, Watch}
+use Rattle.demand_steps.specs.Watching.Item.{settle, apply, undo, unknown}
+use Rattle.demand_chains.specs.Plans.{plannedBack, backAt, firsts}
 
 -- C36, C37: `forward_stages()` and `recovery_stages()`
 abbrev pub forwardStages : List ℕ

@@ -9,7 +9,8 @@ use lib.Dec.{eqb}
 use Rattle.choice.specs.Pick.{pick, _or_}
 use Rattle.areas.specs.Areas.{areaSize}
 use Rattle.phases.specs.Phases.{none, ready, recovered}
-use Rattle.record.specs.Answers.{Told, refused}
+use Rattle.record.specs.Classes.{refused}
+use Rattle.record.specs.Answers.{Told}
 use Rattle.record.specs.declared.Record.{Record}
 use Rattle.wholeness.specs.Whole.{whole, complete}
 use Rattle.step_begins.specs.Opening.{opening}
@@ -42,9 +43,9 @@ pub record CommitClauses (r : Record) (t : Told) : Type 0 where
   -- ok exactly if ..
   pub c190 : (t .number ≡ 0) ↔ CanCommit r
   -- an error implies `new == old`
-  pub c191 : refused (t .number) ≡ true → t .state ≡ r
+  pub c191 : refused (t .class) ≡ true → t .state ≡ r
   -- an error is `Idle` if not staged and `NotReady` if staged
-  pub c192 : refused (t .number) ≡ true → t .number ≡ pick (r .staged) 4 2
+  pub c192 : refused (t .class) ≡ true → t .number ≡ pick (r .staged) 4 2
   -- C193 to C200
   pub ok : t .number ≡ 0 → Committed r t
 
@@ -76,9 +77,9 @@ pub record RecoverClauses (r : Record) (n : ℕ) (t : Told) : Type 0 where
   -- ok exactly if .. (also C216)
   pub c204 : (t .number ≡ 0) ↔ CanRecover r n
   -- an error implies `new == old` (also C217)
-  pub c205 : refused (t .number) ≡ true → t .state ≡ r
+  pub c205 : refused (t .class) ≡ true → t .state ≡ r
   -- which error `recover_with` gives is open upstream: here 2 if not staged, else 4 (or 8)
-  pub error : refused (t .number) ≡ true → gained (t .number) ≡ false → t .number ≡ pick (r .staged) 4 2
+  pub error : refused (t .class) ≡ true → gained (t .number) ≡ false → t .number ≡ pick (r .staged) 4 2
   -- C207 to C211, C218 to C222
   pub ok : t .number ≡ 0 → Recovered r n t
 
@@ -94,13 +95,13 @@ pub record RefreshClauses (r : Record) (n : ℕ) (t : Told) : Type 0 where
   pub c229 : t .number ≡ 0 → t .state .accepted ≡ n
   pub c230 : t .number ≡ 0 → t .values ≡ r .accepted ∷ []
   -- an error implies `new == old`
-  pub c231 : refused (t .number) ≡ true → t .state ≡ r
+  pub c231 : refused (t .class) ≡ true → t .state ≡ r
 
 -- some exactly if not staged; then the domain and the version
 pub record StampClauses (r : Record) (domain : ℕ) (t : Told) : Type 0 where
   pub c115 : (t .number ≡ 0) ↔ (r .staged ≡ false)
   pub c116 : t .number ≡ 0 → t .values ≡ domain ∷ r .revision ∷ []
-  pub error : refused (t .number) ≡ true → t .number ≡ 1
+  pub error : refused (t .class) ≡ true → t .number ≡ 1
   pub kept : t .state ≡ r
 
 -- true exactly if not staged, and both numbers agree

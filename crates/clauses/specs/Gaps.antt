@@ -11,7 +11,8 @@ use Rattle.choice.specs.Pick.{_or_}
 use Rattle.phases.specs.Phases.{none, remove, updates, ready, undo, recoverRemove, recovered, hasSuccessor, boundary}
 use Rattle.areas.specs.Areas.{areaSize}
 use Rattle.batch.specs.Batch.{limit}
-use Rattle.record.specs.Answers.{Told, refused}
+use Rattle.record.specs.Classes.{refused}
+use Rattle.record.specs.Answers.{Told}
 use Rattle.record.specs.Leaves.{Leaves}
 use Rattle.record.specs.Fields.{top}
 use Rattle.record.specs.declared.Record.{Record}
@@ -64,7 +65,7 @@ pub data BeginAnswer (r : Record) (c o n : ℕ) : ℕ → Type 0 where
 -- lent the candidate and recovery areas c and o and the table t, with two payloads and the pairs
 pub record Rejects (r : Record) (c o t new old pairs : List ℕ) (v : Leaves) : Type 0 where
   pub answered : BeginAnswer r (length new) (length old) (length pairs / 2) (v .told .number)
-  pub same : refused (v .told .number) ≡ true → (v .told .state ≡ r) × (v .lent ≡ c ∷ o ∷ t ∷ [])
+  pub same : refused (v .told .class) ≡ true → (v .told .state ≡ r) × (v .lent ≡ c ∷ o ∷ t ∷ [])
   pub zero : v .told .number ≡ 0 → (v .told .state .applied ≡ 0) × (v .told .state .attempted ≡ 0) × (v .told .state .restoring ≡ false)
 
 -- "`recover_with`: which error is open": here each answer has its case, for both recoveries, to a payload of length n

@@ -6,7 +6,8 @@ use mathlib.Core.Bool.{Bool, true, false}
 use mathlib.Core.List.{List, []}
 use lib.ListN.{length, getD, take}
 use Rattle.batch.specs.Batch.{identityAt, payloadAt}
-use Rattle.record.specs.Answers.{Told, refused, refuse}
+use Rattle.record.specs.Classes.{refused}
+use Rattle.record.specs.Answers.{Told, refuse}
 use Rattle.record.specs.Leaves.{Leaves}
 use Rattle.record.specs.declared.Record.{Record}
 use Rattle.record.specs.declared.Refusal.the-variants.{BadArea}
@@ -20,8 +21,8 @@ payload n area = take n area
 pub record Lends (r : Record) (sizes : Bool) (t : Told) (lent moved : List (List ℕ)) (v : Leaves) : Type 0 where
   pub tells : sizes ≡ true → v .told ≡ t
   pub bad : sizes ≡ false → v .told ≡ refuse BadArea r
-  pub stays : refused (v .told .number) ≡ true → v .lent ≡ lent
-  pub moves : refused (v .told .number) ≡ false → v .lent ≡ moved
+  pub stays : refused (v .told .class) ≡ true → v .lent ≡ lent
+  pub moves : refused (v .told .class) ≡ false → v .lent ≡ moved
 
 -- C153, C165: the updates of a table are the pairs that were given
 pub record ReadBack (pairs table : List ℕ) : Type 0 where

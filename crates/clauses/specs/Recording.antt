@@ -6,12 +6,13 @@ use mathlib.Core.List.{List, [], _∷_}
 use mathlib.Core.Logic.{_≢_}
 use lib.ListN.{getD, drop}
 use Rattle.choice.specs.Pick.{_and_}
-use Rattle.record.specs.Answers.{refused, refuse}
+use Rattle.record.specs.Classes.{Class, refused}
+use Rattle.record.specs.Answers.{refuse}
 use Rattle.record.specs.Leaves.{Leaves, leaves}
 use Rattle.record.specs.declared.Record.{Record}
 use Rattle.record.specs.declared.Refusal.the-variants.{BadArea, Damaged, LogFull}
 use Rattle.wholeness.specs.Whole.{whole}
-use Rattle.log.specs.Log.{count, full, sound, event}
+use Rattle.log.specs.Log.{count, headWords, full, sound, event}
 use Rattle.noting.specs.Recorded.{withLog}
 use Rattle.events.specs.Entries.{logOf}
 use Rattle.clauses.specs.Lending.{payload}
@@ -21,21 +22,21 @@ abbrev pub unlogged : Leaves → Leaves
 unlogged v = leaves (v .told) (drop 1 (v .lent))
 
 -- v is left through a log, inner without one, of the kind of call that `written` tells
-pub record Recorded (written : ℕ → Bool) (kind : ℕ) (r : Record) (log : List ℕ) (lent : List (List ℕ)) (inner v : Leaves) : Type 0 where
+pub record Recorded (written : Class → Bool) (kind : ℕ) (r : Record) (log : List ℕ) (lent : List (List ℕ)) (inner v : Leaves) : Type 0 where
   -- C264, C317, C326, C335, and each clause on `core()`: unless the answer is 12, all but the log is what the call leaves without one
   pub c264 : v .told .number ≢ 12 → unlogged v ≡ inner
   -- document 01: "Where an entry does not fit, 12 is the whole answer"
-  pub no-room : written (inner .told .number) ≡ true → full log ≡ true → v ≡ leaves (refuse LogFull r) (log ∷ lent)
+  pub no-room : written (inner .told .class) ≡ true → full log ≡ true → v ≡ leaves (refuse LogFull r) (log ∷ lent)
   -- C267, C308, C316, C325, C334, C343, C355, C367: the history gains the event, with the new state's serial and revision
-  pub c267 : written (inner .told .number) ≡ true → full log ≡ false → sound log ≡ true →
+  pub c267 : written (inner .told .class) ≡ true → full log ≡ false → sound log ≡ true →
       logOf v ≡ event kind (inner .told .number) (inner .told .state .serial) (inner .told .state .revision) log
-  pub unwritten : written (inner .told .number) ≡ false → logOf v ≡ log
+  pub unwritten : written (inner .told .class) ≡ false → logOf v ≡ log
   -- C305, C342, C354, C363, C364: an error implies `new == old`, of the record, of all that is lent, and of the log
-  pub c305 : refused (v .told .number) ≡ true → (v .told .state ≡ r) × (unlogged v .lent ≡ lent)
-  pub c305-log : written (v .told .number) ≡ false → logOf v ≡ log
+  pub c305 : refused (v .told .class) ≡ true → (v .told .state ≡ r) × (unlogged v .lent ≡ lent)
+  pub c305-log : written (v .told .class) ≡ false → logOf v ≡ log
 
 -- v is left through any log, where all that is lent besides fits or not
-pub record Through (written : ℕ → Bool) (kind : ℕ) (r : Record) (log : List ℕ) (fits : Bool) (lent : List (List ℕ)) (inner v : Leaves) : Type 0 where
+pub record Through (written : Class → Bool) (kind : ℕ) (r : Record) (log : List ℕ) (fits : Bool) (lent : List (List ℕ)) (inner v : Leaves) : Type 0 where
   pub bad : withLog fits log .sized ≡ false → v ≡ leaves (refuse BadArea r) (log ∷ lent)
   -- C252, C253, C256, C299, C309, C318, C327, C336, C347, C357: `wf()` is tested, of the record and of the log's head
   pub damaged : withLog fits log .sized ≡ true → sound log and whole r ≡ false → v ≡ leaves (refuse Damaged r) (log ∷ lent)
@@ -50,4 +51,4 @@ pub record OpenRecorded (revision : ℕ) (given : List ℕ) (v : Leaves) : Type 
   pub c274 : v .told .state .staged ≡ false
   -- no events (also C282): the count is 0, and so is every event word
   pub c275 : count (logOf v) ≡ 0
-  pub c275-words : (i : ℕ) → getD (drop 4 (logOf v)) i 0 ≡ 0
+  pub c275-words : (i : ℕ) → getD (drop headWords (logOf v)) i 0 ≡ 0

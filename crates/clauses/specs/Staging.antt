@@ -7,7 +7,8 @@ use mathlib.Core.Logic.{_≢_, _↔_}
 use Rattle.choice.specs.Pick.{pick}
 use Rattle.areas.specs.Areas.{areaSize}
 use Rattle.batch.specs.Batch.{limit}
-use Rattle.record.specs.Answers.{Told, refused}
+use Rattle.record.specs.Classes.{refused}
+use Rattle.record.specs.Answers.{Told}
 use Rattle.record.specs.Fields.{top, withLengths}
 use Rattle.record.specs.declared.Record.{Record}
 use Rattle.wholeness.specs.Whole.{whole}
@@ -62,9 +63,9 @@ pub record BeginClauses (p : ℕ) (r : Record) (c o n : ℕ) (t : Told) : Type 0
   -- C148 to C153, C164 to C166
   pub ok : t .number ≡ 0 → Begun p c o n (t .state)
   -- an error implies `new == old` (also C163)
-  pub c154 : refused (t .number) ≡ true → t .state ≡ r
+  pub c154 : refused (t .class) ≡ true → t .state ≡ r
   -- an error is `Pending` if staged and `Capacity` if not (also C142)
-  pub c157 : refused (t .number) ≡ true → gained (t .number) ≡ false → t .number ≡ pick (r .staged) 1 3
+  pub c157 : refused (t .class) ≡ true → gained (t .number) ≡ false → t .number ≡ pick (r .staged) 1 3
 
 -- `pending_mut` and `work`, as edit
 pub record EditClauses (r : Record) (c o : ℕ) (t : Told) : Type 0 where
@@ -74,7 +75,7 @@ pub record EditClauses (r : Record) (c o : ℕ) (t : Told) : Type 0 where
   pub c124 : SameBatch r (t .state)
   -- document 01: "All else, phase included, is kept.", and a refusal keeps the whole record (also C132)
   pub c123-record : t .number ≡ 0 → t .state ≡ withLengths (r .accepted) c o r
-  pub c123-refused : refused (t .number) ≡ true → t .state ≡ r
+  pub c123-refused : refused (t .class) ≡ true → t .state ≡ r
   -- some implies that the staged payloads are those that are given, by their lengths (also C138)
   pub c128 : t .number ≡ 0 → (t .state .candidate ≡ c) × (t .state .recovery ≡ o)
   -- none implies that the old and the new are not staged (also C139, C140)

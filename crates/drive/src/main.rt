@@ -25,8 +25,8 @@ const LOG: usize = 5000;
 
 const MARKS: usize = 300;
 
-// The most numbers that a command has.
-const NUMBERS: usize = 15;
+// The most numbers that a command has: those of a record.
+const NUMBERS: usize = rows::FIELDS;
 
 fn print_usage(to: i32) {
     io::write_all(

@@ -6,7 +6,6 @@ use super::answers::Numbers;
 use super::answers::Told;
 use super::held::front;
 use super::held::front_of_words;
-use super::show::record_numbers;
 use libc::STDOUT_FILENO;
 use record::Record;
 
@@ -82,7 +81,7 @@ fn put_numbers(buffer: &mut [u8], written: usize, told: Numbers) -> usize {
 }
 
 fn put_shown(buffer: &mut [u8], written: usize, record: Record, d: Digests) -> usize {
-    let numbers = record_numbers(record);
+    let numbers = rows::numbers(record);
     let at = put_line(buffer, written, b"record", &numbers);
     let bytes = [d.accepted, d.candidate, d.recovery, d.exchange];
     let at = put_line(buffer, at, b"bytes", &bytes);

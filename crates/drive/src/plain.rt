@@ -8,9 +8,8 @@ use super::answers::leaving;
 use super::commands::Plain;
 use super::held::Lent;
 use super::held::size;
-use phases::Phase;
-use record::Live;
 use record::Record;
+use rows::Row;
 use step_stamps::SaveStamp;
 
 fn lending(mut lent: Lent, area: u64, count: usize) -> Lent {
@@ -37,56 +36,12 @@ fn lend(record: Record, lent: Lent, numbers: [u64; NUMBERS]) -> After {
     leaving(record, lending(lent, area, count as usize), Told::Nothing)
 }
 
-// A number that the template holds to 8 bits.
-fn narrow(number: u64) -> u8 {
-    if number <= 255 { number as u8 } else { 255 }
-}
-
-// A number that the template holds to 32 bits.
-fn middle(number: u64) -> u32 {
-    if number <= 4294967295 {
-        number as u32
-    } else {
-        4294967295
-    }
-}
-
-fn live(kind: u64, number: u64) -> Live {
-    match kind {
-        1 => Live::Structure(number),
-        2 => Live::Update(number),
-        3 => Live::Rollback(number),
-        _ => Live::None,
-    }
-}
-
-fn given(numbers: [u64; NUMBERS]) -> Record {
-    Record {
-        revision: numbers[0],
-        serial: numbers[1],
-        accepted: numbers[2] as usize,
-        candidate: numbers[3] as usize,
-        recovery: numbers[4] as usize,
-        staged: numbers[5] == 1,
-        phase: Phase {
-            number: narrow(numbers[6]),
-        },
-        forward: narrow(numbers[7]),
-        back: narrow(numbers[8]),
-        entries: middle(numbers[9]),
-        applied: middle(numbers[10]),
-        attempted: middle(numbers[11]),
-        restoring: numbers[12] == 1,
-        live: live(numbers[13], numbers[14]),
-    }
-}
-
-// `record`: a ticket of kind 0 is none, so its number is 0.
+// `record`: the record becomes the one of these numbers, where they are one.
 fn set_record(record: Record, lent: Lent, numbers: [u64; NUMBERS]) -> After {
-    if (numbers[13] == 0) & (numbers[14] != 0) {
-        return leaving(record, lent, Told::Bad);
+    match rows::record_of(numbers) {
+        Row::Fits(given) => leaving(given, lent, Told::Nothing),
+        Row::Misfit => leaving(record, lent, Told::Bad),
     }
-    leaving(given(numbers), lent, Told::Nothing)
 }
 
 fn check(record: Record, lent: Lent, numbers: [u64; NUMBERS]) -> After {

@@ -1,7 +1,5 @@
-// `show`: the record's numbers, and digests of all that the driver holds.
-use super::NUMBERS;
+// `show`: digests of all that the driver holds.
 use super::answers::Digests;
-use record::Record;
 ghost use Prim.Native.Nat.{_<_};
 
 const MODULUS: u64 = 4294967291;
@@ -36,32 +34,6 @@ fn digest_words(words: &[u64]) -> u64 {
         i += 1;
     }
     h
-}
-
-fn wide_count(count: u32) -> u64 {
-    count as u64
-}
-
-// The fifteen numbers of a record, in the order of the command `record`.
-pub(crate) fn record_numbers(record: Record) -> [u64; NUMBERS] {
-    let live = record.live;
-    [
-        record.revision,
-        record.serial,
-        record.accepted as u64,
-        record.candidate as u64,
-        record.recovery as u64,
-        record.staged as u64,
-        wide(record.phase.number),
-        wide(record.forward),
-        wide(record.back),
-        wide_count(record.entries),
-        wide_count(record.applied),
-        wide_count(record.attempted),
-        record.restoring as u64,
-        wide(live.work()),
-        live.number(),
-    ]
 }
 
 pub(crate) fn digests(

@@ -2,13 +2,13 @@
 use Prim.Native.Nat.{ℕ, _+_}
 use mathlib.Core.Bool.{Bool, false, not}
 use lib.Dec.{eqb, ltb}
-use mathlib.Core.List.{[], _∷_}
+use mathlib.Core.List.{List, [], _∷_}
 use Rattle.choice.specs.Pick.{_or_}
 use Rattle.phases.specs.Phases.{none, ready, recovered}
 use Rattle.wholeness.specs.Whole.{complete}
 use Rattle.record.specs.Fields.{withPlace, withBatch, withSettings, withLengths, spent}
 use Rattle.record.specs.Answers.{Told, answer}
-use Rattle.wholeness.specs.Gates.{gateOf, gated, _whenever_, barring, longSnapshot}
+use Rattle.wholeness.specs.Gates.{gateOf, gated, Bar, _whenever_, barring, longSnapshot}
 use Rattle.record.specs.declared.Record.{Record}
 use Rattle.record.specs.declared.Answer.the-variants.{Done}
 use Rattle.record.specs.declared.Was.the-variants.{One, Three}
@@ -19,19 +19,26 @@ unfoldable pub idleAt : ℕ → ℕ → Record → Record
 idleAt revision accepted r =
     spent (withPlace none 0 0 (withBatch 0 0 0 false (withSettings revision false (withLengths accepted 0 0 r))))
 
--- "Commit: 2; 4 if not complete or phase not 0 or 7. .. revision plus one." "Commit answers with the old accepted and recovery
--- lengths and entries"
+-- "Commit: 2; 4 if not complete or phase not 0 or 7."
+abbrev pub commitBars : Record → List Bar
+commitBars r =
+    Idle whenever not (r .staged)
+    ∷ NotReady whenever (not (complete r) or not (eqb (r .phase .number) none or eqb (r .phase .number) ready))
+    ∷ []
+
+-- "revision plus one"; "Commit answers with the old accepted and recovery lengths and entries"
 unfoldable pub commitOwn : Record → Told
 commitOwn r =
-    barring
-    (Idle whenever not (r .staged)
-    ∷ NotReady whenever (not (complete r) or not (eqb (r .phase .number) none or eqb (r .phase .number) ready))
-    ∷ []) r
+    barring (commitBars r) r
     (answer (Done (Three (r .accepted) (r .recovery) (r .entries))) (idleAt (r .revision + 1) (r .candidate) r))
 
 -- "4 if entries > 0 or phase not 0 or 13"
 unfoldable pub unrestored : Record → Bool
 unrestored r = ltb 0 (r .entries) or not (eqb (r .phase .number) none or eqb (r .phase .number) recovered)
+
+-- of both recoveries: "2; 4 if .."
+abbrev pub recoverBars : Record → List Bar → List Bar
+recoverBars r next = Idle whenever not (r .staged) ∷ NotReady whenever unrestored r ∷ next
 
 -- "both recoveries with the old accepted, candidate and recovery lengths"
 abbrev pub recoveredTo : ℕ → Record → Told
@@ -39,19 +46,20 @@ recoveredTo accepted r = answer (Done (Three (r .accepted) (r .candidate) (r .re
 
 -- "Recover (exchange area, length): 2; 4 if ..; 8."
 unfoldable pub recoverOwn : Record → ℕ → Told
-recoverOwn r length =
-    barring (Idle whenever not (r .staged) ∷ NotReady whenever unrestored r ∷ longSnapshot length []) r (recoveredTo length r)
+recoverOwn r length = barring (recoverBars r (longSnapshot length [])) r (recoveredTo length r)
 
 -- "Recover from the retained payload: 2, 4 alike"
 unfoldable pub recoverRetainedOwn : Record → Told
-recoverRetainedOwn r =
-    barring (Idle whenever not (r .staged) ∷ NotReady whenever unrestored r ∷ []) r (recoveredTo (r .recovery) r)
+recoverRetainedOwn r = barring (recoverBars r []) r (recoveredTo (r .recovery) r)
 
--- "Refresh: 1, 8", "refresh with the old accepted one"
+-- "Refresh: 1, 8"
+abbrev pub refreshBars : Record → ℕ → List Bar
+refreshBars r length = Pending whenever r .staged ∷ longSnapshot length []
+
+-- "refresh with the old accepted one"
 unfoldable pub refreshOwn : Record → ℕ → Told
 refreshOwn r length =
-    barring (Pending whenever r .staged ∷ longSnapshot length []) r
-    (answer (Done (One (r .accepted))) (withLengths length (r .candidate) (r .recovery) r))
+    barring (refreshBars r length) r (answer (Done (One (r .accepted))) (withLengths length (r .candidate) (r .recovery) r))
 
 abbrev pub commitStep : Bool → Bool → Record → Told
 commitStep sized sound r = gated (gateOf sized sound r) r (commitOwn r)

@@ -1,1 +1,1 @@
-pub mod Admitted
+pub mod Taken

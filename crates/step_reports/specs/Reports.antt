@@ -28,9 +28,12 @@ abbrev pub storing : ℕ → ℕ → Record → Record
 storing candidate recovery r = withLengths (r .accepted) candidate recovery r
 
 -- "Report structure (both payloads): 10, 8."
+abbrev pub reportStructureBars : Record → ℕ → ℕ → ℕ → List Bar
+reportStructureBars r ticket candidate recovery = stale structure ticket r (longPayloads candidate recovery [])
+
 unfoldable pub reportStructureOwn : Record → ℕ → Outcome → ℕ → ℕ → Told
 reportStructureOwn r ticket outcome candidate recovery =
-    barring (stale structure ticket r (longPayloads candidate recovery [])) r
+    barring (reportStructureBars r ticket candidate recovery) r
     (reported (effectOf outcome) (spent (storing candidate recovery r)) (structureDone (spent (storing candidate recovery r))))
 
 abbrev pub reportStructureStep : Bool → Bool → Record → ℕ → Outcome → ℕ → ℕ → Told
@@ -38,15 +41,22 @@ reportStructureStep sized sound r ticket outcome candidate recovery =
     gated (gateOf sized sound r) r (reportStructureOwn r ticket outcome candidate recovery)
 
 -- "Report update (payload of action number applied): 10."
+abbrev pub reportUpdateBars : Record → ℕ → List Bar
+reportUpdateBars r ticket = stale update ticket r []
+
 unfoldable pub reportUpdateOwn : Record → ℕ → Outcome → Told
-reportUpdateOwn r ticket outcome = barring (stale update ticket r []) r (reported (effectOf outcome) (spent r) (updateDone (spent r)))
+reportUpdateOwn r ticket outcome = barring (reportUpdateBars r ticket) r (reported (effectOf outcome) (spent r) (updateDone (spent r)))
 
 abbrev pub reportUpdateStep : Bool → Bool → Record → ℕ → Outcome → Told
 reportUpdateStep sized sound r ticket outcome = gated (gateOf sized sound r) r (reportUpdateOwn r ticket outcome)
 
 -- "Report rollback (payload of the last action): 10."
+abbrev pub reportRollbackBars : Record → ℕ → List Bar
+reportRollbackBars r ticket = stale rollback ticket r []
+
 unfoldable pub reportRollbackOwn : Record → ℕ → Outcome → Told
-reportRollbackOwn r ticket outcome = barring (stale rollback ticket r []) r (reported (effectOf outcome) (spent r) (rollbackDone (spent r)))
+reportRollbackOwn r ticket outcome =
+    barring (reportRollbackBars r ticket) r (reported (effectOf outcome) (spent r) (rollbackDone (spent r)))
 
 abbrev pub reportRollbackStep : Bool → Bool → Record → ℕ → Outcome → Told
 reportRollbackStep sized sound r ticket outcome = gated (gateOf sized sound r) r (reportRollbackOwn r ticket outcome)

@@ -16,37 +16,26 @@ pub use update::report_update;
 use wholeness::Gate;
 ghost use mathlib.Core.Path.{_≡_};
 ghost use Rattle.record.specs.Answers.{tells};
-ghost use Rattle.step_reports.specs.Reports.{reportGate, reported};
+ghost use mathlib.Core.List.{[]};
+ghost use Rattle.record.specs.Given.{effectOf};
+ghost use Rattle.step_reports.specs.Reports.{stale, reported};
+ghost use Rattle.wholeness.specs.Gates.{gateOf, through};
 
 // The refusals that every call begins with, and then a ticket that is not the live one of its kind.
-fn report_gate(r: Record, found: Findings, kind: u8, ticket: u64) -> Gate
-    ensures { λ g. ⌜ g ≡ reportGate (found .sized) (found .sound) r kind ticket ⌝ }
+fn report_gate(r: Record, found: Findings, work: u8, ticket: u64) -> Gate
+    ensures { λ g. ⌜ g ≡ through (gateOf (found .sized) (found .sound) r) (stale work ticket r []) ⌝ }
 {
-    let gate = wholeness::admit(r, found);
-    if let Gate::Shut(why) = gate {
-        return Gate::Shut(why);
-    }
     let live = r.live;
-    if live.is(kind, ticket) {
-        Gate::Open
-    } else {
-        Gate::Shut(Refusal::Stale)
-    }
+    wholeness::admit(r, found).bar(!live.is(work, ticket), Refusal::Stale)
 }
 
 // A report that is taken: Waiting and Failed do nothing else, and Done is what it would do.
 fn reported(r: Record, outcome: Outcome, done: Stepped) -> Stepped
-    ensures { λ s. ⌜ tells s ≡ reported outcome r (tells done) ⌝ }
+    ensures { λ s. ⌜ tells s ≡ reported (effectOf outcome) r (tells done) ⌝ }
 {
     match outcome {
-        Outcome::Waiting => Stepped {
-            answer: Answer::Waiting,
-            state: r,
-        },
-        Outcome::Failed(code) => Stepped {
-            answer: Answer::Failed(code),
-            state: r,
-        },
+        Outcome::Waiting => r.answering(Answer::Waiting),
+        Outcome::Failed(code) => r.answering(Answer::Failed(code)),
         Outcome::Done => done,
     }
 }

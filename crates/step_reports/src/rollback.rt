@@ -41,16 +41,9 @@ fn rollback_done(mut r: Record) -> Stepped
     r.attempted = r.attempted - 1;
     r.applied = least(r.applied, left);
     if left == 0 {
-        Stepped {
-            answer: Answer::Finished,
-            state: leaving(r),
-        }
-    } else {
-        Stepped {
-            answer: Answer::More,
-            state: r,
-        }
+        return leaving(r).answering(Answer::Finished);
     }
+    r.answering(Answer::More)
 }
 
 // A report of the undoing of the last action.

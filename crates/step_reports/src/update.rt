@@ -22,16 +22,9 @@ fn update_done(mut r: Record) -> Stepped
 {
     r.applied = r.applied + 1;
     if r.applied == r.entries {
-        Stepped {
-            answer: Answer::Finished,
-            state: r.adopting(),
-        }
-    } else {
-        Stepped {
-            answer: Answer::More,
-            state: r,
-        }
+        return r.adopting().answering(Answer::Finished);
     }
+    r.answering(Answer::More)
 }
 
 // A report of the update of the action number applied.

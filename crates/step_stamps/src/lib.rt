@@ -42,7 +42,7 @@ pub fn stamp(r: Record, domain: u64) -> Stamping
 
 // Whether a stamp is still the record's, in a domain.
 pub fn check(r: Record, domain: u64, stamp: SaveStamp) -> Checked
-    ensures { λ s. ⌜ saysChecked s ≡ checkStep r domain (stamp .domain) (stamp .revision) ⌝ }
+    ensures { λ s. ⌜ saysChecked s ≡ checkStep r domain stamp ⌝ }
 {
     if !wholeness::whole(r) {
         return Checked::Refused(Refusal::Damaged);

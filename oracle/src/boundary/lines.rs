@@ -3,43 +3,62 @@
 //! Written from the page on the driver's script alone.
 
 use super::Out;
+use crate::line;
+use crate::model::{row, Outcome, Record};
+use crate::place::Place;
+use crate::sizes::*;
 use std::io;
 
 pub(super) fn lines(out: Out) -> io::Result<()> {
     writeln!(out, "# lines at the edge of what a script may say")?;
-    for width in [994, 995] {
-        writeln!(out, "stamp {:0>width$}", 7, width = width)?;
-        writeln!(out, "check 7 {:0>width$} 0", 7, width = width - 4)?;
+    for width in [LINE_MOST, LINE_MOST + 1] {
+        for (front, back) in [("stamp ", ""), ("check 7 ", " 0")] {
+            let width = width as usize - front.len() - back.len();
+            writeln!(out, "{}{:0>width$}{}", front, 7, back, width = width)?;
+        }
     }
-    for (place, held) in [("a", 5000), ("t", 2200), ("l", 5000), ("g", 300), ("s", 300)] {
-        writeln!(out, "put {} {} 255\nput {} {} 255", place, held - 1, place, held)?;
-        writeln!(out, "put {} 0 256\nput {} 0 0", place, place)?;
-        writeln!(out, "lend {} {}\nlend {} {}", place, held, place, held + 1)?;
+    elements(out)?;
+    let seeds = SEED_MOST + 1;
+    let (most, long) = (format!("{}:{}", HELD_AREA, SEED_MOST), format!("{}:0", HELD_AREA + 1));
+    let seed = format!("1:{}", seeds);
+    for payload in [&most[..], &long, &seed, "00001:0001", "1", "1:", ":1"] {
+        writeln!(out, "fill {}\n{}", payload, line::open_at(0, 0, payload))?;
     }
-    writeln!(out, "lend a 4096\nlend t 128\nlend l 0\nlend g 64\nlend s 64")?;
-    for payload in ["5000:1000000", "5001:0", "1:1000001", "00001:0001", "1", "1:", ":1"] {
-        writeln!(out, "fill {}\nopen 0 0 {}", payload, payload)?;
-    }
-    let odd = [
-        "begin 1:1 1:1 2200:1000000",
-        "begin 1:1 1:1 2201:0",
-        "report-structure 1 2 0 1:1 1:1",
-        "report-structure 1 3 0 1:1 1:1",
-        "report-structure 1 2 18446744073709551616 1:1 1:1",
-        "link 1 2",
-        "record 0 0 0 0 0 2 0 0 0 0 0 0 0 0 0",
-        "record 0 0 0 0 0 0 0 0 0 0 0 0 2 0 0",
-        "record 0 0 0 0 0 0 0 0 0 0 0 0 0 4 0",
-        "record 0 0 0 0 0 0 0 0 0 0 0 0 0 0 1",
-        "record 0 0 0 0 0 0 0 0 0 0 0 0 0 0",
-        "",
-        " ",
-        " show",
-        "show ",
-        "show\r",
-    ];
-    for line in odd {
+    for line in odd() {
         writeln!(out, "{}", line)?;
     }
     Ok(())
+}
+
+/// The last elements held and the first that are not, and values likewise.
+fn elements(out: Out) -> io::Result<()> {
+    let places = [Place::Accepted, Place::Table, Place::Log, Place::Groups, Place::Status];
+    for place in places {
+        let held = place.held();
+        writeln!(out, "{}", line::put(place, held - 1, BYTE_MOST))?;
+        writeln!(out, "{}", line::put(place, held, BYTE_MOST))?;
+        writeln!(out, "{}", line::put(place, 0, BYTE_MOST + 1))?;
+        writeln!(out, "{}", line::put(place, 0, 0))?;
+        writeln!(out, "{}\n{}", line::lend(place, held), line::lend(place, held + 1))?;
+    }
+    for place in places {
+        writeln!(out, "{}", line::lend(place, place.lent_at_start()))?;
+    }
+    Ok(())
+}
+
+fn odd() -> Vec<String> {
+    let mut lines = vec![
+        format!("begin 1:1 1:1 {}:{}", HELD_TABLE, SEED_MOST),
+        format!("begin 1:1 1:1 {}:0", HELD_TABLE + 1),
+        format!("report-structure 1 {} 0 1:1 1:1", Outcome::MOST),
+        format!("report-structure 1 {} 0 1:1 1:1", Outcome::MOST + 1),
+        "report-structure 1 2 18446744073709551616 1:1 1:1".to_string(),
+        "link 1 2".to_string(),
+    ];
+    lines.extend(line::bad_rows());
+    lines.push(line::row_with(row::TICKET, 1));
+    lines.push(line::row(&Record::default().row()[1..]));
+    lines.extend(["", " ", " show", "show ", "show\r"].map(String::from));
+    lines
 }

@@ -2,65 +2,87 @@
 //!
 //! Written from document 01 and the page on the driver's script alone.
 
-use super::{some_records, Out, EACH_CALL};
-use crate::model::TOP;
-use crate::text::record_words;
+use super::records::{each_call, some_records};
+use super::{without_log, Out};
+use crate::line;
+use crate::log;
+use crate::model::Record;
+use crate::place::Place;
+use crate::sizes::*;
 use std::io;
 
 pub(super) fn log_sizes(out: Out) -> io::Result<()> {
     writeln!(out, "# log sizes")?;
-    for words in [1, 3, 4, 5, 7, 8, 9, 10, 11, 12, 16, 4096, 4099, 4100, 4101, 4104, 5000] {
-        writeln!(out, "lend l {}\nopen 0 0 3:1\nbegin 2:5 2:9 0:0", words)?;
-        writeln!(out, "edit 1:1 1:1\nstamp 1\ncheck 1 1 0\ncommit\nask-rollback\nshow")?;
-        writeln!(out, "open 0 0 4097:1\nask-update\nshow")?;
+    let small = [1, LOG_HEAD - 1, LOG_HEAD, LOG_HEAD + 1].into_iter();
+    let least = (LOG_LEAST - 1..=LOG_LEAST + EVENT).chain([log::words(3)]);
+    let most = [LOG_MOST - EVENT, LOG_MOST - 1, LOG_MOST, LOG_MOST + 1, LOG_MOST + EVENT];
+    for words in small.chain(least).chain(most).chain([HELD_LOG]) {
+        writeln!(out, "{}\n{}", line::lend(Place::Log, words), line::open_at(0, 0, "3:1"))?;
+        writeln!(out, "begin 2:5 2:9 0:0\nedit 1:1 1:1\nstamp 1\n{}", line::check_of(1, 1, 0))?;
+        writeln!(out, "commit\nask-rollback\nshow")?;
+        let long = format!("{}:1", AREA + 1);
+        writeln!(out, "{}\nask-update\nshow", line::open_at(0, 0, &long))?;
     }
+    order(out)
+}
+
+fn order(out: Out) -> io::Result<()> {
     writeln!(out, "# a wrong size comes before damage, and a log before its record")?;
-    writeln!(out, "record 0 0 0 0 0 0 99 0 0 0 0 0 0 0 0\ncommit\nlend l 8\ncommit")?;
-    writeln!(out, "lend a 4095\ncommit\nrecover-retained\nask-update\nlend a 4096")?;
-    writeln!(out, "lend l 0\nopen 0 0 0:0")
+    let damaged = Record { phase: 99, ..Record::default() };
+    writeln!(out, "{}\ncommit", line::record(&damaged))?;
+    writeln!(out, "{}\ncommit", line::lend(Place::Log, LOG_LEAST))?;
+    writeln!(out, "{}\ncommit", line::lend(Place::Accepted, AREA - 1))?;
+    writeln!(out, "recover-retained\nask-update\n{}", line::lend(Place::Accepted, AREA))?;
+    without_log(out)
+}
+
+/// Heads of a log with room for two events, sound and not.
+fn heads() -> Vec<[u64; LOG_HEAD as usize]> {
+    let room = 2;
+    let sound = log::head(0, room);
+    let others = [
+        (log::COUNT, vec![0, room, room + 1, TOP]),
+        (log::FIRST, vec![LOG_HEAD - 1, LOG_HEAD + 1, 0]),
+        (log::ROOM, vec![room - 1, room + 1, 0, room + (1 << 62), TOP]),
+        (log::ZERO, vec![1, TOP]),
+    ];
+    let mut heads = Vec::new();
+    for (at, words) in others {
+        for word in words {
+            let mut head = sound;
+            head[at] = word;
+            heads.push(head);
+        }
+    }
+    heads
 }
 
 pub(super) fn log_heads(out: Out) -> io::Result<()> {
-    writeln!(out, "# log heads")?;
-    let high = 1u64 << 62;
-    let heads = [
-        [0, 4, 2, 0],
-        [2, 4, 2, 0],
-        [3, 4, 2, 0],
-        [TOP, 4, 2, 0],
-        [0, 3, 2, 0],
-        [0, 5, 2, 0],
-        [0, 0, 2, 0],
-        [0, 4, 1, 0],
-        [0, 4, 3, 0],
-        [0, 4, 0, 0],
-        [0, 4, 2 + high, 0],
-        [0, 4, TOP, 0],
-        [0, 4, 2, 1],
-        [0, 4, 2, TOP],
-    ];
-    writeln!(out, "lend l 12")?;
-    for head in heads {
+    writeln!(out, "# log heads\n{}", line::lend(Place::Log, log::words(2)))?;
+    for head in heads() {
         for record in some_records() {
-            for call in EACH_CALL {
-                for (i, word) in head.iter().enumerate() {
-                    writeln!(out, "put l {} {}", i, word)?;
+            for call in each_call() {
+                for (at, word) in (0..).zip(head) {
+                    writeln!(out, "{}", line::put(Place::Log, at, word))?;
                 }
-                writeln!(out, "record {}\n{}", record_words(&record), call)?;
+                writeln!(out, "{}\n{}", line::record(&record), call)?;
             }
         }
         writeln!(out, "show")?;
     }
-    writeln!(out, "lend l 0\nopen 0 0 0:0")
+    without_log(out)
 }
 
 pub(super) fn log_room(out: Out) -> io::Result<()> {
     writeln!(out, "# logs that become full")?;
-    for (words, count) in [(8, 0), (12, 1), (4100, 1023), (4100, 1022)] {
-        writeln!(out, "lend l {}\nopen 0 0 3:1\nput l 0 {}", words, count)?;
+    for (room, left) in [(1, 1), (2, 1), (ROOM_MOST, 1), (ROOM_MOST, 2)] {
+        writeln!(out, "{}", line::lend(Place::Log, log::words(room)))?;
+        writeln!(out, "{}", line::open_at(0, 0, "3:1"))?;
+        writeln!(out, "{}", line::put(Place::Log, log::COUNT as u64, room - left))?;
         writeln!(out, "ask-structure\nask-structure\nshow\nask-rollback\nask-update")?;
-        writeln!(out, "begin 2:5 2:9 0:0\nbegin 4097:5 2:9 0:0\ncommit\nrefresh 4097")?;
+        let long = AREA + 1;
+        writeln!(out, "begin 2:5 2:9 0:0\nbegin {}:5 2:9 0:0\ncommit\nrefresh {}", long, long)?;
         writeln!(out, "refresh 5\nshow")?;
     }
-    writeln!(out, "lend l 0\nopen 0 0 0:0")
+    without_log(out)
 }

@@ -4,74 +4,104 @@
 //! Written from document 01 and the page on the driver's script alone.
 
 use super::Out;
-use crate::model::{Kind, Record, TOP};
+use crate::line;
+use crate::model::{phase, Opening, Record, Ticket, Work};
+use crate::sizes::{AREA, COUNT_MOST, MAX_ACTIONS, TOP};
 use std::io;
 
-/// Every call, with arguments that are in order; tickets are all 7.
-pub(super) const EACH_CALL: [&str; 19] = [
-    "begin 2:5 3:9 4:70",
-    "begin-structural 2:5 3:9 4:70",
-    "ask-structure",
-    "report-structure 7 0 5 4:1 5:2",
-    "report-structure 7 2 5 4:1 5:2",
-    "ask-update",
-    "report-update 7 1 5 77",
-    "report-update 7 2 5 77",
-    "ask-rollback",
-    "report-rollback 7 0 5 88",
-    "report-rollback 7 2 5 88",
-    "edit 6:3 7:4",
-    "commit",
-    "recover 8",
-    "recover-retained",
-    "refresh 9",
-    "stamp 3",
-    "check 3 3 5",
-    "report-structure 6 2 5 4:1 5:2",
-];
+/// The revision, the serial and the live ticket of the records here.
+const REVISION: u64 = 5;
+const SERIAL: u64 = 7;
+
+/// Every call, with arguments that are in order; one ticket alone is not.
+pub(super) fn each_call() -> Vec<String> {
+    let calls = [
+        "begin 2:5 3:9 4:70",
+        "begin-structural 2:5 3:9 4:70",
+        "ask-structure",
+        "report-structure 7 0 5 4:1 5:2",
+        "report-structure 7 2 5 4:1 5:2",
+        "ask-update",
+        "report-update 7 1 5 77",
+        "report-update 7 2 5 77",
+        "ask-rollback",
+        "report-rollback 7 0 5 88",
+        "report-rollback 7 2 5 88",
+        "edit 6:3 7:4",
+        "commit",
+        "recover 8",
+        "recover-retained",
+        "refresh 9",
+        "stamp 3",
+        &line::check_of(3, 3, REVISION),
+        "report-structure 6 2 5 4:1 5:2",
+    ];
+    calls.map(String::from).to_vec()
+}
+
+/// The record that the others here differ from in a few fields.
+pub(super) fn idle_record() -> Record {
+    Record::opened(Opening::at(REVISION, SERIAL), 3)
+}
+
+pub(super) fn live(work: Work) -> Option<Ticket> {
+    Some(Ticket { work, number: SERIAL })
+}
 
 /// One idle record, one that may end, one for each kind of ticket, one bad.
 pub(super) fn some_records() -> Vec<Record> {
-    let mut idle = Record::opened(5, 7, 3);
-    idle.candidate = 1;
-    let mut staged = Record::opened(5, 7, 3);
-    staged.staged = true;
-    let mut structure = staged.clone();
-    structure.phase = 1;
-    structure.live = Some((Kind::Structure, 7));
-    let mut update = staged.clone();
-    update.entries = 2;
-    update.attempted = 1;
-    update.live = Some((Kind::Update, 7));
-    let mut rollback = update.clone();
-    rollback.entries = 1;
-    rollback.restoring = true;
-    rollback.live = Some((Kind::Rollback, 7));
-    let mut bad = rollback.clone();
-    bad.entries = 2;
+    let idle = Record { candidate: 1, ..idle_record() };
+    let staged = Record { staged: true, ..idle_record() };
+    let structure = Record { phase: phase::REMOVE, live: live(Work::Structure), ..staged.clone() };
+    let update = Record { entries: 2, attempted: 1, live: live(Work::Update), ..staged.clone() };
+    let rollback =
+        Record { entries: 1, restoring: true, live: live(Work::Rollback), ..update.clone() };
+    let bad = Record { entries: 2, ..rollback.clone() };
     vec![idle, staged, structure, update, rollback, bad]
 }
 
 pub(super) fn record_edges(out: Out) -> io::Result<()> {
     writeln!(out, "# both sides of a whole record's bounds")?;
-    for length in [4095, 4096, 4097, 65535] {
-        for at in 0..3 {
-            let mut lengths = [1, 2, 3];
-            lengths[at] = length;
-            let [a, c, v] = lengths;
-            writeln!(out, "record 5 7 {} {} {} 1 0 0 0 0 0 0 0 0 0\ncommit\nshow", a, c, v)?;
+    let staged = Record { staged: true, accepted: 1, candidate: 2, recovery: 3, ..idle_record() };
+    for length in [AREA - 1, AREA, AREA + 1, COUNT_MOST] {
+        for record in [
+            Record { accepted: length, ..staged.clone() },
+            Record { candidate: length, ..staged.clone() },
+            Record { recovery: length, ..staged.clone() },
+        ] {
+            writeln!(out, "{}\ncommit\nshow", line::record(&record))?;
         }
     }
-    for (entries, applied, attempted) in
-        [(64, 64, 64), (65, 65, 65), (64, 63, 64), (64, 64, 65), (65535, 0, 0), (64, 62, 64)]
-    {
-        let counts = format!("{} {} {}", entries, applied, attempted);
-        writeln!(out, "record 5 7 1 2 3 1 0 0 0 {} 0 0 0\nask-rollback\nshow", counts)?;
-        writeln!(out, "record 5 7 1 2 3 1 7 5 0 {} 0 0 0\nask-rollback\nshow", counts)?;
+    count_edges(out, &staged)?;
+    ticket_edges(out, &staged)
+}
+
+fn count_edges(out: Out, staged: &Record) -> io::Result<()> {
+    let most = MAX_ACTIONS;
+    for (entries, applied, attempted) in [
+        (most, most, most),
+        (most + 1, most + 1, most + 1),
+        (most, most - 1, most),
+        (most, most, most + 1),
+        (COUNT_MOST, 0, 0),
+        (most, most - 2, most),
+    ] {
+        let updated = Record { entries, applied, attempted, ..staged.clone() };
+        let forward = phase::FORWARD_MOST;
+        let ready = Record { phase: phase::READY, forward, ..updated.clone() };
+        for record in [updated, ready] {
+            writeln!(out, "{}\nask-rollback\nshow", line::record(&record))?;
+        }
     }
-    for (serial, ticket) in [(0, 0), (1, 1), (1, 0), (0, 1), (TOP, TOP), (TOP, TOP - 1)] {
-        writeln!(out, "record 5 {} 1 2 3 1 1 0 0 0 0 0 0 1 {}", serial, ticket)?;
-        writeln!(out, "report-structure {} 2 0 1:1 1:1\nshow", ticket)?;
+    Ok(())
+}
+
+fn ticket_edges(out: Out, staged: &Record) -> io::Result<()> {
+    for (serial, number) in [(0, 0), (1, 1), (1, 0), (0, 1), (TOP, TOP), (TOP, TOP - 1)] {
+        let live = Some(Ticket { work: Work::Structure, number });
+        let record = Record { serial, phase: phase::REMOVE, live, ..staged.clone() };
+        writeln!(out, "{}", line::record(&record))?;
+        writeln!(out, "report-structure {} 2 0 1:1 1:1\nshow", number)?;
     }
     Ok(())
 }

@@ -2,32 +2,27 @@
 //!
 //! Written from document 01 and the page on the driver's script alone.
 
-use super::{Out, EACH_CALL};
-use crate::model::{Kind, Record};
-use crate::text::record_words;
+use super::records::{each_call, idle_record, live};
+use super::Out;
+use crate::line;
+use crate::log;
+use crate::model::{phase, Record, Work};
+use crate::place::Place;
+use crate::sizes::LOG_MOST;
 use std::io;
 
 /// Small records of every phase, whole or not, and every call on the whole.
 pub fn sweep(out: Out) -> io::Result<()> {
-    writeln!(out, "lend l 4100\nopen 5 7 3:1\nlend l 0")?;
-    for phase in 0..=14 {
+    writeln!(out, "{}", line::lend(Place::Log, LOG_MOST))?;
+    let opening = idle_record().opening();
+    writeln!(out, "{}\n{}", line::open(opening, "3:1"), line::lend(Place::Log, 0))?;
+    for phase in 0..=phase::COUNT {
         for flags in 0..4 {
             for counts in 0..48 {
                 sweep_tickets(out, phase, flags, counts)?;
             }
         }
-        for forward in 0..=6 {
-            for back in 0..=5 {
-                let mut record = small(phase, 1 | u64::from(phase >= 8) << 1, 0);
-                if phase == 8 {
-                    record.entries = 1;
-                    record.attempted = 1;
-                }
-                record.forward = forward;
-                record.back = back;
-                writeln!(out, "record {}\nask-structure\nask-rollback", record_words(&record))?;
-            }
-        }
+        sweep_phase_counts(out, phase)?;
         writeln!(out, "show")?;
     }
     Ok(())
@@ -36,33 +31,64 @@ pub fn sweep(out: Out) -> io::Result<()> {
 /// A record of a phase; its flags are staged and restoring, its counts are
 /// entries, applied and attempted below 3, 4 and 4.
 fn small(phase: u64, flags: u64, counts: u64) -> Record {
-    let mut record = Record::opened(5, 7, 3);
-    record.candidate = 2;
-    record.recovery = 1;
-    record.staged = flags & 1 != 0;
-    record.restoring = flags & 2 != 0;
-    record.phase = phase;
-    record.forward = [0, 0, 1, 2, 3, 4, 4, 5, 4, 0, 1, 2, 3, 5, 0][phase as usize];
-    record.back = if phase < 14 { phase.saturating_sub(9) } else { 0 };
-    record.entries = counts / 16;
-    record.applied = counts / 4 % 4;
-    record.attempted = counts % 4;
-    record
+    Record {
+        candidate: 2,
+        recovery: 1,
+        staged: flags & 1 != 0,
+        restoring: flags & 2 != 0,
+        phase,
+        forward: some_forward(phase),
+        back: phase::back(phase),
+        entries: counts / 16,
+        applied: counts / 4 % 4,
+        attempted: counts % 4,
+        ..idle_record()
+    }
+}
+
+/// A forward count that the phase allows, another for each phase that allows
+/// any.
+fn some_forward(phase: u64) -> u64 {
+    match phase {
+        phase::RECOVERED => phase::FORWARD_MOST,
+        phase::RECOVER_REMOVE..=phase::RECOVER_SETTLE_MOUNTED => phase::back(phase),
+        other => phase::forward(other).map_or(0, |counts| *counts.start()),
+    }
+}
+
+/// Every forward and back count of a phase, and one past each.
+fn sweep_phase_counts(out: Out, phase: u64) -> io::Result<()> {
+    for forward in 0..=phase::FORWARD_MOST + 1 {
+        for back in 0..=phase::BACK_MOST + 1 {
+            let count = u64::from(phase == phase::UNDO);
+            let record = Record {
+                staged: true,
+                restoring: phase >= phase::UNDO,
+                entries: count,
+                attempted: count,
+                forward,
+                back,
+                ..small(phase, 0, 0)
+            };
+            writeln!(out, "{}\nask-structure\nask-rollback", line::record(&record))?;
+        }
+    }
+    Ok(())
 }
 
 fn sweep_tickets(out: Out, phase: u64, flags: u64, counts: u64) -> io::Result<()> {
-    let kinds = [None, Some(Kind::Structure), Some(Kind::Update), Some(Kind::Rollback)];
-    for kind in kinds {
-        let mut record = small(phase, flags, counts);
-        record.live = kind.map(|kind| (kind, 7));
-        let words = record_words(&record);
-        writeln!(out, "record {}\ncheck 3 3 5", words)?;
+    let works = [None].into_iter().chain(Work::ALL.map(Some));
+    for work in works {
+        let record = Record { live: work.and_then(live), ..small(phase, flags, counts) };
+        let line = line::record(&record);
+        writeln!(out, "{}\n{}", line, line::check_of(3, 3, record.revision))?;
         if record.whole() {
-            writeln!(out, "lend l 4100\nput l 0 0")?;
-            for call in EACH_CALL {
-                writeln!(out, "record {}\n{}", words, call)?;
+            writeln!(out, "{}", line::lend(Place::Log, LOG_MOST))?;
+            writeln!(out, "{}", line::put(Place::Log, log::COUNT as u64, 0))?;
+            for call in each_call() {
+                writeln!(out, "{}\n{}", line, call)?;
             }
-            writeln!(out, "show\nlend l 0")?;
+            writeln!(out, "show\n{}", line::lend(Place::Log, 0))?;
         }
     }
     Ok(())

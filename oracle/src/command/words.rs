@@ -2,23 +2,16 @@
 //!
 //! Written from the page on the driver's script alone.
 
-use crate::driver::HELD;
-use crate::model::Place;
+use crate::place::Place;
+use crate::sizes::{HELD_AREA, HELD_TABLE, SEED_MOST};
 
-const SEED_MOST: u64 = 1_000_000;
+/// Byte i of a payload is the seed plus i, modulo this.
+const PERIOD: u64 = 251;
+
+pub(super) type Words<'a> = &'a [&'a [u8]];
 
 pub(super) fn place(word: &[u8]) -> Option<Place> {
-    Some(match word {
-        b"a" => Place::Accepted,
-        b"c" => Place::Candidate,
-        b"r" => Place::Recovery,
-        b"x" => Place::Exchange,
-        b"t" => Place::Table,
-        b"l" => Place::Log,
-        b"g" => Place::Groups,
-        b"s" => Place::Status,
-        _ => return None,
-    })
+    Place::of_letter(word)
 }
 
 /// One or more digits, leading zeros allowed, up to the u64 maximum.
@@ -36,6 +29,12 @@ pub(super) fn number(word: &[u8]) -> Option<u64> {
     Some(value)
 }
 
+/// Just so many numbers, a word each.
+pub(super) fn numbers<const COUNT: usize>(words: Words) -> Option<[u64; COUNT]> {
+    let values: Option<Vec<u64>> = words.iter().map(|word| number(word)).collect();
+    values?.try_into().ok()
+}
+
 pub(super) fn up_to(word: &[u8], most: u64) -> Option<u64> {
     number(word).filter(|value| *value <= most)
 }
@@ -44,20 +43,18 @@ pub(super) fn flag(word: &[u8]) -> Option<bool> {
     up_to(word, 1).map(|value| value == 1)
 }
 
-/// Two numbers parted by one colon.
-fn two(word: &[u8], most: u64) -> Option<(usize, u64)> {
+/// Two numbers parted by one colon: so many, and a seed.
+fn seeded(word: &[u8], most: u64) -> Option<(u64, u64)> {
     let colon = word.iter().position(|byte| *byte == b':')?;
-    let first = up_to(&word[..colon], most)?;
-    let second = up_to(&word[colon + 1..], SEED_MOST)?;
-    Some((first as usize, second))
+    Some((up_to(&word[..colon], most)?, up_to(&word[colon + 1..], SEED_MOST)?))
 }
 
 pub(super) fn payload(word: &[u8]) -> Option<Vec<u8>> {
-    let (length, seed) = two(word, HELD[0] as u64)?;
-    Some((0..length as u64).map(|i| ((seed + i) % 251) as u8).collect())
+    let (length, seed) = seeded(word, HELD_AREA)?;
+    Some((0..length).map(|i| ((seed + i) % PERIOD) as u8).collect())
 }
 
 pub(super) fn pairs(word: &[u8]) -> Option<Vec<u64>> {
-    let (count, seed) = two(word, HELD[4] as u64)?;
-    Some((0..count as u64).map(|i| seed + i).collect())
+    let (count, seed) = seeded(word, HELD_TABLE)?;
+    Some((seed..seed + count).collect())
 }

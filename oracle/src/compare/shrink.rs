@@ -2,8 +2,8 @@
 //! dropped, then single lines, then a record is put in place of the calls that
 //! led to it, then numbers are made smaller, while a difference remains.
 
+use crate::line;
 use crate::script::Player;
-use crate::text::record_words;
 use std::io;
 
 /// Tells whether the two sides differ on a script.
@@ -99,7 +99,7 @@ impl Shrinker<'_> {
             for line in &before[..at] {
                 player.hear(line);
             }
-            let record = format!("record {}", record_words(&player.driver.record)).into_bytes();
+            let record = line::record(&player.driver.record).into_bytes();
             let placed = [&before[..at], &[record], &before[at..]].concat();
             if self.take(placed)? {
                 self.drop_lines()?;

@@ -3,7 +3,9 @@
 //! Written from document 01 and the page on the driver's script alone.
 
 use super::Driver;
-use crate::model::{Place, Write, AREA};
+use crate::model::Write;
+use crate::place::Place;
+use crate::sizes::AREA;
 
 impl Driver {
     pub(super) fn put(&mut self, place: Place, index: usize, value: u64) {
@@ -16,27 +18,32 @@ impl Driver {
         }
     }
 
+    /// Writes bytes to the front of an area.
+    pub(super) fn fill(&mut self, area: Place, bytes: &[u8]) {
+        self.areas[area as usize][..bytes.len()].copy_from_slice(bytes);
+    }
+
     pub(super) fn write(&mut self, writes: &[Write]) {
         for write in writes {
             match write {
-                Write::Bytes(place, bytes) => {
-                    self.areas[*place as usize][..bytes.len()].copy_from_slice(bytes);
-                }
+                Write::Bytes(place, bytes) => self.fill(*place, bytes),
                 Write::Words(words) => self.table[..words.len()].copy_from_slice(words),
                 Write::Word(index, value) => self.table[*index] = *value,
-                Write::Swap(one, other) => {
-                    for i in 0..AREA {
-                        let kept = self.areas[*one as usize][i];
-                        self.areas[*one as usize][i] = self.areas[*other as usize][i];
-                        self.areas[*other as usize][i] = kept;
-                    }
-                }
+                Write::Swap(one, other) => self.swap(*one, *other),
                 Write::Copy { from, to } => {
-                    for i in 0..AREA {
+                    for i in 0..AREA as usize {
                         self.areas[*to as usize][i] = self.areas[*from as usize][i];
                     }
                 }
             }
+        }
+    }
+
+    fn swap(&mut self, one: Place, other: Place) {
+        for i in 0..AREA as usize {
+            let kept = self.areas[one as usize][i];
+            self.areas[one as usize][i] = self.areas[other as usize][i];
+            self.areas[other as usize][i] = kept;
         }
     }
 }

@@ -4,14 +4,16 @@
 //! Written from document 01 and the page on the driver's script alone.
 
 use super::Maker;
-use crate::model::{Record, TOP};
-use crate::text::record_words;
+use crate::line;
+use crate::model::{Name, Opening, Record, Ticket};
+use crate::place::Place;
+use crate::sizes::{AREA, HELD_AREA, HELD_TABLE, TABLE, TOP};
 use std::io;
 
 impl Maker<'_> {
     pub(super) fn opening(&mut self) -> String {
-        let (revision, serial) = (self.dice.any(), self.dice.any());
-        format!("open {} {} {}", revision, serial, self.dice.payload())
+        let opening = self.dice.opening();
+        line::open(opening, &self.dice.payload())
     }
 
     pub(super) fn open(&mut self) -> io::Result<()> {
@@ -26,14 +28,14 @@ impl Maker<'_> {
             4 => self.wrong_log(),
             _ => self.right_log(),
         };
-        self.say(&format!("lend l {}", log))?;
+        self.lend(Place::Log, log)?;
         self.open()?;
         let count = 5 + self.dice.below(60);
         self.run(count)
     }
 
     pub(super) fn place(&mut self, record: &Record) -> io::Result<()> {
-        self.say(&format!("record {}", record_words(record)))
+        self.say(&line::record(record))
     }
 
     /// A whole record put in place, then a few calls.
@@ -69,13 +71,15 @@ impl Maker<'_> {
             self.dice.mutate(&mut record);
         }
         self.place(&record)?;
-        let place = self.dice.pick(&["a", "c", "r", "x", "t", "l"]);
+        let place = self.dice.pick(&[Place::of_transaction(), &[Place::Log]].concat());
         let size = match place {
-            "t" => self.dice.pick(&[0, 1, 126, 127, 129, 130, 2200]),
-            "l" => self.wrong_log(),
-            _ => self.dice.pick(&[0, 1, 4095, 4097, 5000]),
+            Place::Table => {
+                self.dice.pick(&[0, 1, TABLE - 2, TABLE - 1, TABLE + 1, TABLE + 2, HELD_TABLE])
+            }
+            Place::Log => self.wrong_log(),
+            _ => self.dice.pick(&[0, 1, AREA - 1, AREA + 1, HELD_AREA]),
         };
-        self.say(&format!("lend {} {}", place, size))?;
+        self.lend(place, size)?;
         if self.dice.chance(20) {
             self.open()?;
         }
@@ -83,9 +87,9 @@ impl Maker<'_> {
             let line = if self.dice.chance(40) { self.sensible() } else { self.any_call() };
             self.say(&line)?;
         }
-        if place == "l" {
+        if place == Place::Log {
             let log = if self.dice.chance(50) { 0 } else { self.right_log() };
-            self.say(&format!("lend l {}", log))?;
+            self.lend(Place::Log, log)?;
             self.open()?;
         }
         Ok(())
@@ -96,11 +100,11 @@ impl Maker<'_> {
         let mut record = self.dice.whole_record();
         record.revision = TOP - u64::from(record.staged);
         if self.dice.chance(50) {
-            record = Record::opened(TOP, self.dice.any(), self.dice.length());
+            record = Record::opened(Opening::at(TOP, self.dice.any()), self.dice.length());
         }
         self.place(&record)?;
-        let structural = if self.dice.chance(50) { "begin" } else { "begin-structural" };
-        let line = self.line_of(structural);
+        let name = if self.dice.chance(50) { Name::Begin } else { Name::BeginStructural };
+        let line = self.line_of(name);
         self.say(&line)?;
         let count = 2 + self.dice.below(5);
         self.run(count)
@@ -110,7 +114,7 @@ impl Maker<'_> {
     pub(super) fn nearly_worn(&mut self) -> io::Result<()> {
         let mut record = self.dice.whole_record();
         record.serial = TOP - self.dice.below(3);
-        record.live = record.live.map(|(kind, _)| (kind, record.serial));
+        record.live = record.live.map(|live| Ticket { number: record.serial, ..live });
         self.place(&record)?;
         let count = 3 + self.dice.below(6);
         self.run(count)

@@ -3,105 +3,90 @@
 //! Written from document 01 and the page on the driver's script alone.
 
 use super::Maker;
-use crate::model::{successor, Kind, Record};
-
-const CALLS: [&str; 18] = [
-    "begin",
-    "begin-structural",
-    "ask-structure",
-    "report-structure",
-    "ask-update",
-    "report-update",
-    "ask-rollback",
-    "report-rollback",
-    "edit",
-    "commit",
-    "recover",
-    "recover-retained",
-    "refresh",
-    "stamp",
-    "check",
-    "link",
-    "initialize",
-    "cancel",
-];
+use crate::line;
+use crate::model::{phase, Name, Outcome, Record, Stamp, Work, CALLS};
 
 impl Maker<'_> {
     pub(super) fn any_call(&mut self) -> String {
-        let name = self.dice.pick(&CALLS);
-        self.line_of(name)
+        let but_open = &CALLS[Name::Begin as usize..];
+        let at = self.dice.below(but_open.len() as u64) as usize;
+        self.line_of(but_open[at].name)
     }
 
     /// What a careful caller might do next, now and then turning back.
     pub(super) fn sensible(&mut self) -> String {
-        let r = self.player.driver.record.clone();
+        let r = self.record().clone();
         let name = if !r.staged {
-            let weights =
-                ["begin", "begin", "begin-structural", "begin-structural", "refresh", "stamp"];
-            if self.dice.chance(70) {
-                self.dice.pick(&weights)
-            } else {
-                self.dice.pick(&["check", "ask-rollback", "ask-update", "stamp", "refresh"])
-            }
-        } else if let Some((kind, _)) = r.live {
-            self.with_ticket(kind)
+            self.idle()
+        } else if let Some(live) = r.live {
+            self.with_ticket(live.work)
         } else if self.dice.chance(6) {
-            self.dice.pick(&["ask-rollback", "edit"])
+            self.dice.pick(&[Name::AskRollback, Name::Edit])
         } else {
             self.due(&r)
         };
         self.line_of(name)
     }
 
-    fn with_ticket(&mut self, kind: Kind) -> &'static str {
-        if self.dice.chance(6) {
-            return self.dice.pick(&["ask-rollback", "ask-structure", "ask-update"]);
-        }
-        match kind {
-            Kind::Structure => "report-structure",
-            Kind::Update => "report-update",
-            Kind::Rollback => "report-rollback",
+    fn idle(&mut self) -> Name {
+        use Name::*;
+        if self.dice.chance(70) {
+            self.dice.pick(&[Begin, Begin, BeginStructural, BeginStructural, Refresh, Stamp])
+        } else {
+            self.dice.pick(&[Check, AskRollback, AskUpdate, Stamp, Refresh])
         }
     }
 
-    fn due(&mut self, r: &Record) -> &'static str {
-        let ended = r.phase == 7 || r.phase == 13;
-        if successor(r.phase).is_some() || (ended && self.dice.chance(25)) {
-            "ask-structure"
-        } else if r.restoring && r.entries > 0 {
-            "ask-rollback"
-        } else if r.phase == 5 || (r.phase == 0 && !r.restoring && r.applied < r.entries) {
-            "ask-update"
+    fn with_ticket(&mut self, work: Work) -> Name {
+        if self.dice.chance(6) {
+            return self.dice.pick(&[Name::AskRollback, Name::AskStructure, Name::AskUpdate]);
+        }
+        match work {
+            Work::Structure => Name::ReportStructure,
+            Work::Update => Name::ReportUpdate,
+            Work::Rollback => Name::ReportRollback,
+        }
+    }
+
+    fn due(&mut self, r: &Record) -> Name {
+        let ended = r.phase == phase::READY || r.phase == phase::RECOVERED;
+        if phase::successor(r.phase).is_some() || (ended && self.dice.chance(25)) {
+            Name::AskStructure
+        } else if r.undoes() {
+            Name::AskRollback
+        } else if r.phase == phase::UPDATES || (r.updates() && r.applied < r.entries) {
+            Name::AskUpdate
         } else if r.entries == 0 && (r.restoring || self.dice.chance(30)) {
-            self.dice.pick(&["recover", "recover-retained"])
+            self.dice.pick(&[Name::Recover, Name::RecoverRetained])
         } else {
-            "commit"
+            Name::Commit
         }
     }
 
     /// A call of this name with arguments chosen for the state.
-    pub(super) fn line_of(&mut self, name: &str) -> String {
+    pub(super) fn line_of(&mut self, name: Name) -> String {
+        let word = name.word();
         match name {
-            "begin" | "begin-structural" => {
+            Name::Begin | Name::BeginStructural => {
                 let (c, r, w) = (self.dice.payload(), self.dice.payload(), self.dice.pairs());
-                format!("{} {} {} {}", name, c, r, w)
+                format!("{} {} {} {}", word, c, r, w)
             }
-            "report-structure" => {
+            Name::ReportStructure => {
                 let (c, r) = (self.dice.payload(), self.dice.payload());
-                format!("{} {} {} {}", name, self.report(), c, r)
+                format!("{} {} {} {}", word, self.report(), c, r)
             }
-            "report-update" | "report-rollback" => {
-                format!("{} {} {}", name, self.report(), self.dice.any())
+            Name::ReportUpdate | Name::ReportRollback => {
+                format!("{} {} {}", word, self.report(), self.dice.any())
             }
-            "edit" => format!("edit {} {}", self.dice.payload(), self.dice.payload()),
-            "recover" | "refresh" => format!("{} {}", name, self.lent_length()),
-            "stamp" => format!("stamp {}", self.dice.any()),
-            "check" => self.check(),
-            "link" | "initialize" | "cancel" => {
+            Name::Edit => format!("{} {} {}", word, self.dice.payload(), self.dice.payload()),
+            Name::Recover | Name::Refresh => format!("{} {}", word, self.lent_length()),
+            Name::Stamp => format!("{} {}", word, self.dice.any()),
+            Name::Check => self.check(),
+            Name::Link | Name::Initialize | Name::Cancel => {
                 let id = self.id();
                 self.status_call(id)
             }
-            _ => name.to_string(),
+            _ => word.to_string(),
         }
     }
 
@@ -114,27 +99,28 @@ impl Maker<'_> {
     }
 
     fn check(&mut self) -> String {
-        let revision = self.player.driver.record.revision;
+        let revision = self.record().revision;
         let domain = self.dice.any();
         let given = if self.dice.chance(70) { domain } else { self.dice.beside(domain) };
-        let stamped = match self.dice.below(10) {
+        let revision = match self.dice.below(10) {
             0 => self.dice.any(),
             1 | 2 => self.dice.beside(revision),
             _ => revision,
         };
-        format!("check {} {} {}", domain, given, stamped)
+        line::check(domain, Stamp { domain: given, revision })
     }
 
     /// Ticket, outcome and code of a report: mostly the live ticket.
     fn report(&mut self) -> String {
-        let serial = self.player.driver.record.serial;
-        let live = self.player.driver.record.live.map_or(serial, |(_, number)| number);
+        let record = self.record();
+        let live = record.live.map_or(record.serial, |live| live.number);
         let ticket = match self.dice.below(12) {
             0 => self.dice.any(),
             1 | 2 => self.dice.beside(live),
             _ => live,
         };
-        let outcome = if self.dice.chance(70) { 2 } else { self.dice.below(2) };
+        let outcome =
+            if self.dice.chance(70) { Outcome::DONE } else { self.dice.below(Outcome::DONE) };
         format!("{} {} {}", ticket, outcome, self.dice.any())
     }
 }

@@ -3,32 +3,36 @@
 //! Written from document 01 and the page on the driver's script alone.
 
 use super::Maker;
-use crate::model::TOP;
+use crate::log;
+use crate::place::Place;
+use crate::sizes::{EVENT, HELD_LOG, LOG_HEAD, LOG_LEAST, LOG_MOST, ROOM_MOST, TOP};
 use std::io;
 
 impl Maker<'_> {
     pub(super) fn right_log(&mut self) -> u64 {
         match self.dice.below(8) {
-            0 => 8,
-            1 => 12,
-            2 => 4100,
-            3 => 4 + 4 * (1 + self.dice.below(1024)),
-            _ => 4 + 4 * (1 + self.dice.below(40)),
+            0 => LOG_LEAST,
+            1 => LOG_LEAST + EVENT,
+            2 => LOG_MOST,
+            3 => log::words(1 + self.dice.below(ROOM_MOST)),
+            _ => log::words(1 + self.dice.below(40)),
         }
     }
 
     pub(super) fn wrong_log(&mut self) -> u64 {
-        self.dice.pick(&[1, 4, 7, 9, 10, 11, 13, 4099, 4101, 4104, 4096 + 6, 5000])
+        let about_least = [LOG_LEAST - 1, LOG_LEAST + 1, LOG_LEAST + 2, LOG_LEAST + 3];
+        let about_most = [LOG_MOST - 1, LOG_MOST + 1, LOG_MOST + EVENT, LOG_MOST + 2];
+        let short = [&[1, LOG_HEAD][..], &about_least, &[LOG_LEAST + EVENT + 1]].concat();
+        self.dice.pick(&[&short[..], &about_most, &[HELD_LOG]].concat())
     }
 
     /// A log with a sound head and room for `left` more events.
     fn sound_log(&mut self, left: u64) -> io::Result<()> {
         let length = self.right_log();
-        let room = (length - 4) / 4;
-        let head = [room.saturating_sub(left), 4, room, 0];
-        self.say(&format!("lend l {}", length))?;
-        for (i, word) in head.iter().enumerate() {
-            self.say(&format!("put l {} {}", i, word))?;
+        let room = log::room(length);
+        self.lend(Place::Log, length)?;
+        for (at, word) in (0..).zip(log::head(room.saturating_sub(left), room)) {
+            self.put(Place::Log, at, word)?;
         }
         Ok(())
     }
@@ -43,30 +47,30 @@ impl Maker<'_> {
             self.run(count)?;
         }
         if self.dice.chance(70) {
-            self.say("lend l 0")?;
+            self.lend(Place::Log, 0)?;
         }
         Ok(())
     }
 
     pub(super) fn broken_head(&mut self) -> io::Result<()> {
         self.sound_log(1)?;
-        let room = (self.player.driver.lent_log() as u64 - 4) / 4;
+        let room = log::room(self.lent(Place::Log));
         let (at, value) = match self.dice.below(6) {
-            0 => (0, room + 1),
-            1 => (0, TOP),
-            2 => (1, self.dice.pick(&[0, 3, 5, TOP])),
-            3 => (2, self.dice.pick(&[0, room - 1, room + 1, TOP, room + (1 << 62)])),
-            4 => (3, self.dice.pick(&[1, 4, TOP])),
-            _ => (0, room),
+            0 => (log::COUNT, room + 1),
+            1 => (log::COUNT, TOP),
+            2 => (log::FIRST, self.dice.pick(&[0, LOG_HEAD - 1, LOG_HEAD + 1, TOP])),
+            3 => (log::ROOM, self.dice.pick(&[0, room - 1, room + 1, TOP, room + (1 << 62)])),
+            4 => (log::ZERO, self.dice.pick(&[1, 4, TOP])),
+            _ => (log::COUNT, room),
         };
-        self.say(&format!("put l {} {}", at, value))?;
+        self.put(Place::Log, at as u64, value)?;
         for _ in 0..4 {
             let record = self.dice.whole_record();
             self.place(&record)?;
             self.run(2)?;
         }
         if self.dice.chance(60) {
-            self.say("lend l 0")
+            self.lend(Place::Log, 0)
         } else {
             self.open()
         }

@@ -3,17 +3,23 @@
 //! Written from document 01 and the page on the driver's script alone.
 
 use super::Maker;
+use crate::model::Name;
+use crate::place::Place;
+use crate::sizes::{BYTE_MOST, HELD_IDS, IDS_MOST, LENT_IDS};
+use crate::status::{GROUP_BITS, LINKED, LIVE, READY, STATUS_BITS};
 use std::io;
 
 impl Maker<'_> {
     pub(super) fn status(&mut self) -> io::Result<()> {
-        let groups = self.dice.pick(&[64, 64, 64, 1, 2, 255, 256, 257, 0, 300, 63, 65]);
-        let status = if self.dice.chance(80) { groups } else { self.dice.below(301) };
-        self.say(&format!("lend g {}", groups))?;
-        self.say(&format!("lend s {}", status))?;
+        let lent = [LENT_IDS, LENT_IDS, LENT_IDS, 1, 2, IDS_MOST - 1, IDS_MOST, IDS_MOST + 1];
+        let others = [0, HELD_IDS, LENT_IDS - 1, LENT_IDS + 1];
+        let groups = self.dice.pick(&[&lent[..], &others].concat());
+        let status = if self.dice.chance(80) { groups } else { self.dice.below(HELD_IDS + 1) };
+        self.lend(Place::Groups, groups)?;
+        self.lend(Place::Status, status)?;
         for _ in 0..4 + self.dice.below(20) {
             let id = self.id();
-            if self.dice.chance(60) && id < 300 {
+            if self.dice.chance(60) && id < HELD_IDS {
                 self.put_status(id)?;
             }
             let line = self.status_call(id);
@@ -23,23 +29,34 @@ impl Maker<'_> {
     }
 
     fn put_status(&mut self, id: u64) -> io::Result<()> {
-        let group = match self.dice.below(10) {
-            0 => self.dice.pick(&[8, 9, 11, 16, 255]),
-            1..=4 => 3,
-            _ => self.dice.below(8),
-        };
-        let status = match self.dice.below(10) {
-            0 => self.dice.pick(&[16, 17, 31, 255]),
-            1 => 2 * self.dice.below(8),
+        let (group, status) = (self.group_byte(), self.status_byte());
+        self.put(Place::Groups, id, group)?;
+        self.put(Place::Status, id, status)
+    }
+
+    fn group_byte(&mut self) -> u64 {
+        let [bits, live, ready] = [GROUP_BITS, LIVE, READY].map(u64::from);
+        let over = bits + 1;
+        match self.dice.below(10) {
+            0 => self.dice.pick(&[over, over | live, over | ready, 2 * over, BYTE_MOST]),
+            1..=4 => ready,
+            _ => self.dice.below(over),
+        }
+    }
+
+    fn status_byte(&mut self) -> u64 {
+        let [bits, linked] = [STATUS_BITS, LINKED].map(u64::from);
+        let (over, others) = (bits + 1, bits / 2 + 1);
+        match self.dice.below(10) {
+            0 => self.dice.pick(&[over, over | linked, over | bits, BYTE_MOST]),
+            1 => 2 * self.dice.below(others),
             2 | 3 => 0,
-            _ => 1 + 2 * self.dice.below(8),
-        };
-        self.say(&format!("put g {} {}", id, group))?;
-        self.say(&format!("put s {} {}", id, status))
+            _ => linked + 2 * self.dice.below(others),
+        }
     }
 
     pub(super) fn id(&mut self) -> u64 {
-        let length = self.player.driver.lent[6] as u64;
+        let length = self.lent(Place::Groups);
         match self.dice.below(12) {
             0 => 0,
             1 => length,
@@ -51,10 +68,9 @@ impl Maker<'_> {
     }
 
     pub(super) fn status_call(&mut self, id: u64) -> String {
-        match self.dice.below(3) {
-            0 => format!("link {} {}", id, u64::from(self.dice.chance(85))),
-            1 => format!("initialize {}", id),
-            _ => format!("cancel {}", id),
+        match self.dice.pick(&[Name::Link, Name::Initialize, Name::Cancel]) {
+            Name::Link => format!("link {} {}", id, u64::from(self.dice.chance(85))),
+            name => format!("{} {}", name.word(), id),
         }
     }
 }

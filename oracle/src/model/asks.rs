@@ -2,62 +2,69 @@
 //!
 //! Written from document 01 alone.
 
-use super::{answered, Answer, Kind, Record, Verdict, TOP};
+use super::{phase, Record, Step, Work};
+use crate::answer::Answer;
 
-pub(super) fn ask_structure(old: &Record) -> Verdict {
-    match old.phase {
-        0 | 5 | 8 => Err(4),
-        7 | 13 => answered(Answer::bare(24), old.clone(), vec![]),
-        phase => {
-            let mut new = old.clone();
-            let ticket = new.give(Kind::Structure)?;
-            answered(Answer::with(20, &[ticket, phase]), new, vec![])
-        }
+pub(super) fn ask(old: &Record, work: Work) -> Step {
+    match work {
+        Work::Structure => ask_structure(old),
+        Work::Update => ask_update(old),
+        Work::Rollback => ask_rollback(old),
     }
 }
 
+/// A ticket for a phase or an action's number.
+fn ticket(mut new: Record, work: Work, item: u64) -> Step {
+    let number = new.give(work);
+    Step::new(Answer::Ticket.with(&[number, item]), new)
+}
+
+fn finished(new: Record) -> Step {
+    Step::new(Answer::Finished.bare(), new)
+}
+
+fn ask_structure(old: &Record) -> Step {
+    if old.has_left(Work::Structure) {
+        ticket(old.clone(), Work::Structure, old.phase)
+    } else {
+        finished(old.clone())
+    }
+}
+
+/// Where all updates are applied, phase 5 becomes 6.
 pub(super) fn leave_updates(record: &mut Record) {
-    if record.phase == 5 {
-        record.phase = 6;
+    if record.phase == phase::UPDATES {
+        record.phase = phase::ADOPT;
     }
 }
 
-pub(super) fn ask_update(old: &Record) -> Verdict {
-    if (old.phase != 0 && old.phase != 5) || old.restoring {
-        return Err(5);
-    }
+fn ask_update(old: &Record) -> Step {
     let mut new = old.clone();
-    if old.applied == old.entries {
+    if old.has_left(Work::Update) {
+        new.attempted = old.applied + 1;
+        ticket(new, Work::Update, old.applied)
+    } else {
         leave_updates(&mut new);
-        return answered(Answer::bare(24), new, vec![]);
+        finished(new)
     }
-    let ticket = new.give(Kind::Update)?;
-    new.attempted = old.applied + 1;
-    answered(Answer::with(20, &[ticket, old.applied]), new, vec![])
 }
 
-pub(super) fn ask_rollback(old: &Record) -> Verdict {
+fn ask_rollback(old: &Record) -> Step {
     let mut new = old.clone();
-    if (9..=13).contains(&old.phase) {
-        return answered(Answer::bare(24), new, vec![]);
+    if phase::going_back(old.phase) {
+        return finished(new);
     }
-    if old.attempted > 0 && old.serial == TOP {
-        return Err(11);
-    }
+    let left = old.has_left(Work::Rollback);
     new.restoring = true;
     new.entries = old.attempted;
     new.live = None;
-    let forwards = (1..=7).contains(&old.phase);
-    if new.entries == 0 {
-        if forwards {
-            new.phase = 9;
-        }
-        return answered(Answer::bare(24), new, vec![]);
+    if phase::going_forward(old.phase) {
+        new.phase = if left { phase::UNDO } else { phase::RECOVER_REMOVE };
     }
-    let ticket = new.give(Kind::Rollback)?;
-    if forwards {
-        new.phase = 8;
+    if left {
+        let last = new.entries - 1;
+        ticket(new, Work::Rollback, last)
+    } else {
+        finished(new)
     }
-    let last = new.entries - 1;
-    answered(Answer::with(20, &[ticket, last]), new, vec![])
 }

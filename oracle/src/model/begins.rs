@@ -2,45 +2,27 @@
 //!
 //! Written from document 01 alone.
 
-use super::{done, fits, store_both, Place, Record, Verdict, Write, MAX_ACTIONS, TOP};
+use super::call::actions;
+use super::{phase, Opening, Payloads, Record, Step, Write};
+use crate::place::Place;
 
-pub(super) fn open(revision: u64, serial: u64, payload: &[u8]) -> Verdict {
-    let length = fits(payload)?;
-    let record = Record::opened(revision, serial, length);
-    done(record, &[], vec![Write::Bytes(Place::Accepted, payload.to_vec())])
+pub(super) fn open(opening: Opening, payload: &[u8]) -> Step {
+    let record = Record::opened(opening, payload.len() as u64);
+    Step::done(record, &[], vec![Write::Bytes(Place::Accepted, payload.to_vec())])
 }
 
-pub(super) fn begin(
-    old: &Record,
-    structural: bool,
-    candidate: &[u8],
-    recovery: &[u8],
-    pairs: &[u64],
-) -> Verdict {
-    if old.staged {
-        return Err(1);
-    }
-    if old.revision == TOP {
-        return Err(3);
-    }
-    let mut new = Record::opened(old.revision, old.serial, old.accepted);
-    let mut writes = store_both(&mut new, candidate, recovery)?;
-    let actions = (pairs.len() / 2) as u64;
-    if actions > MAX_ACTIONS {
-        return Err(9);
-    }
+pub(super) fn begin(old: &Record, structural: bool, payloads: &Payloads, pairs: &[u64]) -> Step {
+    let mut new = Record::opened(old.opening(), old.accepted);
+    let mut writes = payloads.store(&mut new);
     new.staged = true;
-    new.entries = actions;
-    new.phase = u64::from(structural);
+    new.entries = actions(pairs);
+    new.phase = if structural { phase::REMOVE } else { phase::NONE };
     writes.push(Write::Words(pairs.to_vec()));
-    done(new, &[], writes)
+    Step::done(new, &[], writes)
 }
 
-pub(super) fn edit(old: &Record, candidate: &[u8], recovery: &[u8]) -> Verdict {
-    if !old.staged {
-        return Err(2);
-    }
+pub(super) fn edit(old: &Record, payloads: &Payloads) -> Step {
     let mut new = old.clone();
-    let writes = store_both(&mut new, candidate, recovery)?;
-    done(new, &[], writes)
+    let writes = payloads.store(&mut new);
+    Step::done(new, &[], writes)
 }

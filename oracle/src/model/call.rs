@@ -1,86 +1,124 @@
-//! The calls, what each is given, and what each is lent.
+//! The calls with what each is given.
 //!
 //! Written from document 01 alone.
 
-/// What can be lent: four areas, the table, the log, groups and status.
-#[derive(Clone, Copy, Debug, PartialEq, Eq)]
-pub enum Place {
-    Accepted,
-    Candidate,
-    Recovery,
-    Exchange,
-    Table,
-    Log,
-    Groups,
-    Status,
+use super::{About, Name, Opening, Outcome, Record, Stamp, Ticket, Work, Write, CALLS};
+use crate::place::Place;
+use crate::sizes::ACTION;
+
+/// A candidate payload and a recovery payload.
+#[derive(Clone, Debug, PartialEq, Eq)]
+pub struct Payloads {
+    pub candidate: Vec<u8>,
+    pub recovery: Vec<u8>,
 }
 
+/// What a status call does to its id.
 #[derive(Clone, Copy, Debug, PartialEq, Eq)]
-pub enum Outcome {
-    Waiting,
-    Failed(u64),
-    Done,
+pub enum Mark {
+    Link { domain: bool },
+    Initialize,
+    Cancel,
 }
 
 #[derive(Clone, Debug, PartialEq, Eq)]
 pub enum Call {
-    Open { revision: u64, serial: u64, payload: Vec<u8> },
-    Begin { structural: bool, candidate: Vec<u8>, recovery: Vec<u8>, pairs: Vec<u64> },
-    AskStructure,
-    ReportStructure { ticket: u64, outcome: Outcome, candidate: Vec<u8>, recovery: Vec<u8> },
-    AskUpdate,
+    Open { opening: Opening, payload: Vec<u8> },
+    Begin { structural: bool, payloads: Payloads, pairs: Vec<u64> },
+    Ask(Work),
+    ReportStructure { ticket: u64, outcome: Outcome, payloads: Payloads },
     ReportUpdate { ticket: u64, outcome: Outcome, payload: u64 },
-    AskRollback,
     ReportRollback { ticket: u64, outcome: Outcome, payload: u64 },
-    Edit { candidate: Vec<u8>, recovery: Vec<u8> },
+    Edit(Payloads),
     Commit,
     Recover { length: u64 },
     RecoverRetained,
     Refresh { length: u64 },
     Stamp { domain: u64 },
-    Check { domain: u64, stamp: (u64, u64) },
-    Link { id: u64, domain: bool },
-    Initialize { id: u64 },
-    Cancel { id: u64 },
+    Check { domain: u64, stamp: Stamp },
+    Status { id: u64, mark: Mark },
 }
 
 impl Call {
-    pub fn name(&self) -> &'static str {
+    pub fn name(&self) -> Name {
         match self {
-            Call::Open { .. } => "open",
-            Call::Begin { structural: false, .. } => "begin",
-            Call::Begin { structural: true, .. } => "begin-structural",
-            Call::AskStructure => "ask-structure",
-            Call::ReportStructure { .. } => "report-structure",
-            Call::AskUpdate => "ask-update",
-            Call::ReportUpdate { .. } => "report-update",
-            Call::AskRollback => "ask-rollback",
-            Call::ReportRollback { .. } => "report-rollback",
-            Call::Edit { .. } => "edit",
-            Call::Commit => "commit",
-            Call::Recover { .. } => "recover",
-            Call::RecoverRetained => "recover-retained",
-            Call::Refresh { .. } => "refresh",
-            Call::Stamp { .. } => "stamp",
-            Call::Check { .. } => "check",
-            Call::Link { .. } => "link",
-            Call::Initialize { .. } => "initialize",
-            Call::Cancel { .. } => "cancel",
+            Call::Open { .. } => Name::Open,
+            Call::Begin { structural: false, .. } => Name::Begin,
+            Call::Begin { structural: true, .. } => Name::BeginStructural,
+            Call::Ask(Work::Structure) => Name::AskStructure,
+            Call::ReportStructure { .. } => Name::ReportStructure,
+            Call::Ask(Work::Update) => Name::AskUpdate,
+            Call::ReportUpdate { .. } => Name::ReportUpdate,
+            Call::Ask(Work::Rollback) => Name::AskRollback,
+            Call::ReportRollback { .. } => Name::ReportRollback,
+            Call::Edit(_) => Name::Edit,
+            Call::Commit => Name::Commit,
+            Call::Recover { .. } => Name::Recover,
+            Call::RecoverRetained => Name::RecoverRetained,
+            Call::Refresh { .. } => Name::Refresh,
+            Call::Stamp { .. } => Name::Stamp,
+            Call::Check { .. } => Name::Check,
+            Call::Status { mark: Mark::Link { .. }, .. } => Name::Link,
+            Call::Status { mark: Mark::Initialize, .. } => Name::Initialize,
+            Call::Status { mark: Mark::Cancel, .. } => Name::Cancel,
         }
     }
 
-    /// The areas and table a call of the transaction is lent.
-    pub fn needs(&self) -> &'static [Place] {
-        use Place::*;
+    pub fn about(&self) -> &'static About {
+        &CALLS[self.name() as usize]
+    }
+
+    /// The payloads that a call is given, by their lengths: a snapshot, or the
+    /// candidate and then the recovery payload.
+    pub fn lengths(&self) -> Vec<u64> {
         match self {
-            Call::Open { .. } => &[Accepted],
-            Call::Begin { .. } => &[Candidate, Recovery, Table],
-            Call::ReportStructure { .. } | Call::Edit { .. } => &[Candidate, Recovery],
-            Call::ReportUpdate { .. } | Call::ReportRollback { .. } => &[Table],
-            Call::Commit => &[Accepted, Candidate],
-            Call::Recover { .. } | Call::Refresh { .. } => &[Accepted, Exchange],
-            Call::RecoverRetained => &[Accepted, Recovery, Exchange],
+            Call::Open { payload, .. } => vec![payload.len() as u64],
+            Call::Recover { length } | Call::Refresh { length } => vec![*length],
+            Call::Begin { payloads, .. }
+            | Call::ReportStructure { payloads, .. }
+            | Call::Edit(payloads) => payloads.lengths().to_vec(),
+            _ => vec![],
+        }
+    }
+
+    /// The words of the pairs that a begin is given.
+    pub fn pairs(&self) -> &[u64] {
+        match self {
+            Call::Begin { pairs, .. } => pairs,
             _ => &[],
         }
+    }
+
+    /// The ticket that a report is given.
+    pub fn ticket(&self) -> Option<Ticket> {
+        let (work, number) = match self {
+            Call::ReportStructure { ticket, .. } => (Work::Structure, *ticket),
+            Call::ReportUpdate { ticket, .. } => (Work::Update, *ticket),
+            Call::ReportRollback { ticket, .. } => (Work::Rollback, *ticket),
+            _ => return None,
+        };
+        Some(Ticket { work, number })
+    }
+}
+
+/// How many actions so many words of pairs are.
+pub fn actions(pairs: &[u64]) -> u64 {
+    pairs.len() as u64 / ACTION
+}
+
+impl Payloads {
+    fn lengths(&self) -> [u64; 2] {
+        [self.candidate.len() as u64, self.recovery.len() as u64]
+    }
+
+    /// Moves both lengths and says which bytes are to be copied.
+    pub(super) fn store(&self, record: &mut Record) -> Vec<Write> {
+        let [candidate, recovery] = self.lengths();
+        record.candidate = candidate;
+        record.recovery = recovery;
+        vec![
+            Write::Bytes(Place::Candidate, self.candidate.clone()),
+            Write::Bytes(Place::Recovery, self.recovery.clone()),
+        ]
     }
 }

@@ -2,74 +2,56 @@
 //!
 //! Written from document 01 alone.
 
-use super::{done, length_fits, Answer, Place, Record, Step, Verdict, Write};
+use super::{Record, Stamp, Step, Write};
+use crate::place::Place;
 
-pub(super) fn commit(old: &Record) -> Verdict {
-    if !old.staged {
-        return Err(2);
-    }
-    if !old.complete() || (old.phase != 0 && old.phase != 7) {
-        return Err(4);
-    }
+fn exchanged() -> Vec<Write> {
+    vec![Write::Swap(Place::Accepted, Place::Exchange)]
+}
+
+pub(super) fn commit(old: &Record) -> Step {
     let mut new = old.clone();
     new.revision += 1;
     new.settle(old.candidate);
     let values = [old.accepted, old.recovery, old.entries];
-    done(new, &values, vec![Write::Swap(Place::Accepted, Place::Candidate)])
+    Step::done(new, &values, vec![Write::Swap(Place::Accepted, Place::Candidate)])
 }
 
-fn may_recover(old: &Record) -> Result<(), u64> {
-    if !old.staged {
-        return Err(2);
-    }
-    if old.entries > 0 || (old.phase != 0 && old.phase != 13) {
-        return Err(4);
-    }
-    Ok(())
-}
-
-pub(super) fn recover(old: &Record, length: u64) -> Verdict {
-    may_recover(old)?;
-    length_fits(length)?;
+/// What both recoveries answer and leave.
+fn recovered(old: &Record, accepted: u64, writes: Vec<Write>) -> Step {
     let mut new = old.clone();
-    new.settle(length);
-    let values = [old.accepted, old.candidate, old.recovery];
-    done(new, &values, vec![Write::Swap(Place::Accepted, Place::Exchange)])
+    new.settle(accepted);
+    Step::done(new, &[old.accepted, old.candidate, old.recovery], writes)
 }
 
-pub(super) fn recover_retained(old: &Record) -> Verdict {
-    may_recover(old)?;
-    let mut new = old.clone();
-    new.settle(old.recovery);
-    let values = [old.accepted, old.candidate, old.recovery];
+pub(super) fn recover(old: &Record, length: u64) -> Step {
+    recovered(old, length, exchanged())
+}
+
+pub(super) fn recover_retained(old: &Record) -> Step {
     let writes = vec![
         Write::Copy { from: Place::Accepted, to: Place::Exchange },
         Write::Copy { from: Place::Recovery, to: Place::Accepted },
     ];
-    done(new, &values, writes)
+    recovered(old, old.recovery, writes)
 }
 
 /// Decision: refresh names only the accepted payload, so an idle record that
 /// is restoring stays so, and the other two lengths stay.
-pub(super) fn refresh(old: &Record, length: u64) -> Verdict {
-    if old.staged {
-        return Err(1);
-    }
-    length_fits(length)?;
-    let mut new = old.clone();
-    new.accepted = length;
-    done(new, &[old.accepted], vec![Write::Swap(Place::Accepted, Place::Exchange)])
+pub(super) fn refresh(old: &Record, length: u64) -> Step {
+    let new = Record { accepted: length, ..old.clone() };
+    Step::done(new, &[old.accepted], exchanged())
 }
 
-pub(super) fn stamp(old: &Record, domain: u64) -> Verdict {
-    if old.staged {
-        return Err(1);
-    }
-    done(old.clone(), &[domain, old.revision], vec![])
+fn stamp_of(record: &Record, domain: u64) -> Stamp {
+    Stamp { domain, revision: record.revision }
 }
 
-pub(super) fn check(old: &Record, domain: u64, stamp: (u64, u64)) -> Step {
-    let passes = !old.staged && stamp == (domain, old.revision);
-    let answer = Answer::with(0, &[u64::from(passes)]);
-    Step { answer, record: old.clone(), writes: vec![] }
+pub(super) fn stamp(old: &Record, domain: u64) -> Step {
+    Step::done(old.clone(), &stamp_of(old, domain).words(), vec![])
+}
+
+pub(super) fn check(old: &Record, domain: u64, stamp: Stamp) -> Step {
+    let passes = !old.staged && stamp == stamp_of(old, domain);
+    Step::done(old.clone(), &[u64::from(passes)], vec![])
 }

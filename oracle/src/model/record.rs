@@ -1,17 +1,26 @@
-//! The record, its phases, and when it is whole.
+//! The record, and when it is whole.
 //!
 //! Written from document 01 alone.
 
-use super::{AREA, MAX_ACTIONS, TOP};
+use super::{phase, Opening};
+use crate::sizes::{AREA, MAX_ACTIONS, TOP};
 
+/// What a ticket is given for.
 #[derive(Clone, Copy, Debug, PartialEq, Eq)]
-pub enum Kind {
+pub enum Work {
     Structure,
     Update,
     Rollback,
 }
 
-#[derive(Clone, Debug, PartialEq, Eq)]
+#[derive(Clone, Copy, Debug, PartialEq, Eq)]
+pub struct Ticket {
+    pub work: Work,
+    pub number: u64,
+}
+
+/// The record; its default is that of an opening at 0, 0 with an empty payload.
+#[derive(Clone, Debug, Default, PartialEq, Eq)]
 pub struct Record {
     pub revision: u64,
     pub serial: u64,
@@ -26,39 +35,19 @@ pub struct Record {
     pub applied: u64,
     pub attempted: u64,
     pub restoring: bool,
-    pub live: Option<(Kind, u64)>,
-}
-
-pub fn successor(phase: u64) -> Option<u64> {
-    match phase {
-        1..=4 | 6 | 9..=12 => Some(phase + 1),
-        _ => None,
-    }
-}
-
-pub fn boundary(phase: u64) -> bool {
-    phase == 5 || phase == 7 || phase == 13
+    pub live: Option<Ticket>,
 }
 
 impl Record {
     /// The record of an opening.
-    pub fn opened(revision: u64, serial: u64, accepted: u64) -> Record {
-        Record {
-            revision,
-            serial,
-            accepted,
-            candidate: 0,
-            recovery: 0,
-            staged: false,
-            phase: 0,
-            forward: 0,
-            back: 0,
-            entries: 0,
-            applied: 0,
-            attempted: 0,
-            restoring: false,
-            live: None,
-        }
+    pub fn opened(opening: Opening, accepted: u64) -> Record {
+        let Opening { revision, serial } = opening;
+        Record { revision, serial, accepted, ..Record::default() }
+    }
+
+    /// What an opening would be given to go on from here.
+    pub fn opening(&self) -> Opening {
+        Opening { revision: self.revision, serial: self.serial }
     }
 
     pub fn whole(&self) -> bool {
@@ -70,10 +59,9 @@ impl Record {
     }
 
     fn amounts_hold(&self) -> bool {
-        let most = AREA as u64;
-        self.accepted <= most
-            && self.candidate <= most
-            && self.recovery <= most
+        self.accepted <= AREA
+            && self.candidate <= AREA
+            && self.recovery <= AREA
             && self.entries <= MAX_ACTIONS
             && self.applied <= self.attempted
             && self.attempted - self.applied <= 1
@@ -84,27 +72,13 @@ impl Record {
         if self.staged {
             self.revision < TOP
         } else {
-            self.phase == 0 && self.entries == 0 && self.live.is_none()
+            self.phase == phase::NONE && self.entries == 0 && self.live.is_none()
         }
     }
 
     fn phase_counts_hold(&self) -> bool {
-        let forward = match self.phase {
-            0 | 1 => self.forward == 0,
-            2 => self.forward == 1,
-            3 => self.forward == 2,
-            4 => self.forward == 3,
-            5 | 6 => self.forward == 4,
-            7 => self.forward == 5,
-            8 => self.forward == 4 || self.forward == 5,
-            9..=13 => self.forward <= 5,
-            _ => false,
-        };
-        let back = match self.phase {
-            9..=13 => self.back == self.phase - 9,
-            _ => self.back == 0,
-        };
-        forward && back
+        phase::forward(self.phase).map_or(false, |counts| counts.contains(&self.forward))
+            && self.back == phase::back(self.phase)
     }
 
     fn progress_holds(&self) -> bool {
@@ -112,49 +86,61 @@ impl Record {
             return false;
         }
         match self.phase {
-            0 => true,
-            1..=4 => !self.restoring && self.attempted == 0,
-            5 => !self.restoring && (self.applied < self.entries || self.entries == 0),
-            6 | 7 => !self.restoring && self.applied == self.entries,
-            8 => self.restoring && self.entries > 0,
-            9..=13 => self.restoring && self.entries == 0,
+            phase::NONE => true,
+            phase::REMOVE..=phase::SETTLE_MOUNTED => !self.restoring && self.attempted == 0,
+            phase::UPDATES => !self.restoring && (self.applied < self.entries || self.entries == 0),
+            phase::ADOPT | phase::READY => self.complete(),
+            phase::UNDO => self.restoring && self.entries > 0,
+            phase::RECOVER_REMOVE..=phase::RECOVERED => self.restoring && self.entries == 0,
             _ => false,
         }
     }
 
     fn ticket_holds(&self) -> bool {
-        let (kind, number) = match self.live {
+        let ticket = match self.live {
             None => return true,
-            Some(live) => live,
+            Some(ticket) => ticket,
         };
-        let fits = match kind {
-            Kind::Structure => successor(self.phase).is_some(),
-            Kind::Update => {
-                (self.phase == 0 || self.phase == 5)
-                    && !self.restoring
-                    && self.attempted > self.applied
-            }
-            Kind::Rollback => self.restoring && self.entries > 0,
+        let fits = match ticket.work {
+            Work::Structure => phase::successor(self.phase).is_some(),
+            Work::Update => self.updates() && self.attempted > self.applied,
+            Work::Rollback => self.undoes(),
         };
-        fits && number == self.serial && self.serial >= 1
+        fits && ticket.number == self.serial && self.serial >= 1
     }
 
     pub fn complete(&self) -> bool {
         !self.restoring && self.applied == self.entries
     }
 
-    /// Spends one serial on a new live ticket, or is Worn.
-    pub(super) fn give(&mut self, kind: Kind) -> Result<u64, u64> {
-        if self.serial == TOP {
-            return Err(11);
+    /// In phase 0 or 5, and not restoring.
+    pub fn updates(&self) -> bool {
+        phase::updating(self.phase) && !self.restoring
+    }
+
+    /// Restoring, with entries left.
+    pub fn undoes(&self) -> bool {
+        self.restoring && self.entries > 0
+    }
+
+    /// Whether an ask that is not refused gives a ticket.
+    pub(super) fn has_left(&self, work: Work) -> bool {
+        match work {
+            Work::Structure => phase::successor(self.phase).is_some(),
+            Work::Update => self.applied != self.entries,
+            Work::Rollback => !phase::going_back(self.phase) && self.attempted > 0,
         }
+    }
+
+    /// Spends one serial on a ticket, which is live from here on.
+    pub(super) fn give(&mut self, work: Work) -> u64 {
         self.serial += 1;
-        self.live = Some((kind, self.serial));
-        Ok(self.serial)
+        self.live = Some(Ticket { work, number: self.serial });
+        self.serial
     }
 
     /// What commit and both recoveries leave besides revision and accepted.
     pub(super) fn settle(&mut self, accepted: u64) {
-        *self = Record::opened(self.revision, self.serial, accepted);
+        *self = Record::opened(self.opening(), accepted);
     }
 }

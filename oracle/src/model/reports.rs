@@ -1,86 +1,67 @@
-//! The steps of the three reports.
+//! The steps of the three reports. A report that is not refused spends the
+//! ticket and stores the payloads; an outcome without work does nothing else.
 //!
 //! Written from document 01 alone.
 
 use super::asks::leave_updates;
-use super::{answered, boundary, store_both, successor};
-use super::{Answer, Kind, Outcome, Record, Verdict, Write};
+use super::{phase, Outcome, Payloads, Record, Step, Write};
+use crate::answer::{Answer, Answered};
+use crate::sizes::ACTION;
 
-/// Spends the ticket if it is the live one of its kind, else Stale.
-fn spend(old: &Record, kind: Kind, ticket: u64) -> Result<Record, u64> {
-    if old.live != Some((kind, ticket)) {
-        return Err(10);
-    }
-    let mut new = old.clone();
-    new.live = None;
-    Ok(new)
+fn spent(old: &Record) -> Record {
+    Record { live: None, ..old.clone() }
 }
 
-/// The answer of a report that is not Done.
-fn not_done(outcome: Outcome) -> Option<Answer> {
-    match outcome {
-        Outcome::Waiting => Some(Answer::bare(21)),
-        Outcome::Failed(code) => Some(Answer::with(22, &[code])),
-        Outcome::Done => None,
-    }
+fn more_or_finished(finished: bool) -> Answered {
+    if finished { Answer::Finished } else { Answer::More }.bare()
 }
 
-fn more_or_finished(finished: bool) -> Answer {
-    Answer::bare(if finished { 24 } else { 23 })
+/// The word of the table that holds an action's payload.
+fn payload_of(action: u64, payload: u64) -> Vec<Write> {
+    vec![Write::Word((ACTION * action + 1) as usize, payload)]
 }
 
-pub(super) fn report_structure(
-    old: &Record,
-    ticket: u64,
-    outcome: Outcome,
-    candidate: &[u8],
-    recovery: &[u8],
-) -> Verdict {
-    let mut new = spend(old, Kind::Structure, ticket)?;
-    let writes = store_both(&mut new, candidate, recovery)?;
-    if let Some(answer) = not_done(outcome) {
-        return answered(answer, new, writes);
-    }
-    if old.phase <= 6 {
-        new.forward += 1;
-    } else {
-        new.back += 1;
-    }
-    new.phase = successor(old.phase).expect("a live structure ticket has a successor");
-    answered(more_or_finished(boundary(new.phase)), new, writes)
+pub(super) fn report_structure(old: &Record, outcome: Outcome, payloads: &Payloads) -> Step {
+    let mut new = spent(old);
+    let writes = payloads.store(&mut new);
+    let answered = outcome.without_work().unwrap_or_else(|| {
+        if phase::going_back(old.phase) {
+            new.back += 1;
+        } else {
+            new.forward += 1;
+        }
+        new.phase = phase::successor(old.phase).expect("a live structure ticket has a successor");
+        more_or_finished(phase::boundary(new.phase))
+    });
+    Step { answered, record: new, writes }
 }
 
-pub(super) fn report_update(old: &Record, ticket: u64, outcome: Outcome, payload: u64) -> Verdict {
-    let mut new = spend(old, Kind::Update, ticket)?;
-    let writes = vec![Write::Word(2 * old.applied as usize + 1, payload)];
-    if let Some(answer) = not_done(outcome) {
-        return answered(answer, new, writes);
-    }
-    new.applied += 1;
-    let last = new.applied == new.entries;
-    if last {
-        leave_updates(&mut new);
-    }
-    answered(more_or_finished(last), new, writes)
+pub(super) fn report_update(old: &Record, outcome: Outcome, payload: u64) -> Step {
+    let mut new = spent(old);
+    let writes = payload_of(old.applied, payload);
+    let answered = outcome.without_work().unwrap_or_else(|| {
+        new.applied += 1;
+        let last = new.applied == new.entries;
+        if last {
+            leave_updates(&mut new);
+        }
+        more_or_finished(last)
+    });
+    Step { answered, record: new, writes }
 }
 
-pub(super) fn report_rollback(
-    old: &Record,
-    ticket: u64,
-    outcome: Outcome,
-    payload: u64,
-) -> Verdict {
-    let mut new = spend(old, Kind::Rollback, ticket)?;
+pub(super) fn report_rollback(old: &Record, outcome: Outcome, payload: u64) -> Step {
+    let mut new = spent(old);
     let last = old.entries - 1;
-    let writes = vec![Write::Word(2 * last as usize + 1, payload)];
-    if let Some(answer) = not_done(outcome) {
-        return answered(answer, new, writes);
-    }
-    new.entries = last;
-    new.attempted = old.attempted - 1;
-    new.applied = old.applied.min(last);
-    if last == 0 && old.phase == 8 {
-        new.phase = 9;
-    }
-    answered(more_or_finished(last == 0), new, writes)
+    let writes = payload_of(last, payload);
+    let answered = outcome.without_work().unwrap_or_else(|| {
+        new.entries = last;
+        new.attempted = old.attempted - 1;
+        new.applied = old.applied.min(last);
+        if last == 0 && old.phase == phase::UNDO {
+            new.phase = phase::RECOVER_REMOVE;
+        }
+        more_or_finished(last == 0)
+    });
+    Step { answered, record: new, writes }
 }

@@ -3,37 +3,41 @@
 //!
 //! Written from document 01 and the page on the driver's script alone.
 
-use super::{holds, play, play_bytes};
-use crate::{boundary, command, driver, make, script, table};
+use super::{holds, open, play, play_bytes};
+use crate::place::Place;
+use crate::sizes::{AREA, HELD_AREA, LENT_IDS, LINE_MOST, LOG_LEAST};
+use crate::status::{READY, STATUS_BITS};
+use crate::{boundary, command, driver, line, log, make, script, tally};
 
 #[test]
 fn the_log_of_the_example() {
     let mut driver = driver::Driver::new();
-    for line in ["lend l 16", "open 0 0 0:0", "begin 0:0 0:0 0:0", "commit"] {
+    let lend = line::lend(Place::Log, log::words(3));
+    for line in [&lend, &open(0, 0, "0:0"), "begin 0:0 0:0 0:0", "commit"] {
         driver.obey(command::command(line.as_bytes()).expect("a command"));
     }
     let wanted = [2, 4, 3, 0, 1, 0, 0, 0, 9, 0, 0, 1, 0, 0, 0, 0];
-    assert_eq!(driver.log[..16], wanted);
+    assert_eq!(driver.log[..wanted.len()], wanted);
 }
 
 #[test]
 fn a_full_log_and_the_order_of_refusals() {
     holds(&[
-        ("lend l 8", ""),
-        ("open 0 0 0:0", "0"),
+        (&line::lend(Place::Log, LOG_LEAST), ""),
+        (&open(0, 0, "0:0"), "0"),
         ("ask-structure", "4"),
         ("ask-structure", "12"),
         ("ask-rollback", "12"),
-        ("begin 4097:0 0:0 0:0", "8"),
+        (&format!("begin {}:0 0:0 0:0", AREA + 1), "8"),
         ("begin 0:0 0:0 0:0", "12"),
         ("commit", "2"),
         ("report-update 0 2 0 0", "10"),
-        ("put l 3 1", ""),
+        (&line::put(Place::Log, log::ZERO as u64, 1), ""),
         ("ask-update", "7"),
         ("stamp 1", "0 1 0"),
-        ("lend c 4095", ""),
+        (&line::lend(Place::Candidate, AREA - 1), ""),
         ("commit", "6"),
-        ("lend l 10", ""),
+        (&line::lend(Place::Log, LOG_LEAST + 2), ""),
         ("ask-update", "6"),
         ("edit 1:1 1:1", "6"),
         ("refresh 1", "6"),
@@ -42,7 +46,7 @@ fn a_full_log_and_the_order_of_refusals() {
 
 #[test]
 fn the_example_of_the_page() {
-    let lines = ["lend l 16", "open 0 0 3:1", "begin 2:5 2:9 0:0", "commit", "show"];
+    let lines = ["lend l 16", &open(0, 0, "3:1"), "begin 2:5 2:9 0:0", "commit", "show"];
     let said = play(&lines);
     assert_eq!(said[..3], ["0", "0", "0 3 2 0"]);
     assert_eq!(said[3], "record 1 0 2 0 0 0 0 0 0 0 0 0 0 0 0");
@@ -55,66 +59,51 @@ fn status_calls() {
     holds(&[
         ("link 0 1", "13"),
         ("link 1 1", "13"),
-        ("put g 1 3", ""),
+        (&line::put(Place::Groups, 1, READY.into()), ""),
         ("link 1 0", "13"),
         ("initialize 1", "13"),
         ("link 1 1", "0"),
         ("link 1 1", "13"),
         ("cancel 1", "0"),
         ("initialize 1", "0"),
-        ("put s 1 16", ""),
+        (&line::put(Place::Status, 1, u64::from(STATUS_BITS) + 1), ""),
         ("cancel 1", "7"),
-        ("cancel 64", "13"),
-        ("lend g 65", ""),
+        (&format!("cancel {}", LENT_IDS), "13"),
+        (&line::lend(Place::Groups, LENT_IDS + 1), ""),
         ("cancel 0", "6"),
     ]);
 }
 
 #[test]
 fn bad_lines() {
-    let long = format!("stamp {:0>995}", 7);
-    let just = format!("stamp {:0>994}", 7);
-    let comment = format!("# {}", "x".repeat(5000));
-    let lines = [
-        "# comment",
-        "",
-        " stamp 1",
-        "stamp 1 ",
-        "stamp",
-        "stamp 1 2",
-        "stamp\t1",
-        "stamp 1\r",
-        "stamp -1",
-        "stamp 18446744073709551616",
-        "stamp 00018446744073709551615",
-        &long,
-        &just,
-        &comment,
-        "lend a 5001",
-        "put g 0 256",
-        "link 1 2",
-        "nothing",
-        "stamp 5",
-    ];
-    let wanted = [
-        "? 3",
-        "? 4",
-        "? 5",
-        "? 6",
-        "? 7",
-        "? 8",
-        "? 9",
-        "? 10",
-        "0 18446744073709551615 0",
-        "? 12",
-        "0 7 0",
-        "? 15",
-        "? 16",
-        "? 17",
-        "? 18",
-        "0 5 0",
-    ];
-    assert_eq!(play(&lines), wanted);
+    let just = format!("stamp {:0>width$}", 7, width = LINE_MOST as usize - "stamp ".len());
+    let long = just.replace("stamp ", "stamp 0");
+    let comment = format!("# {}", "x".repeat(HELD_AREA as usize));
+    holds(&[
+        ("# comment", ""),
+        ("", ""),
+        (" stamp 1", "? 3"),
+        ("stamp 1 ", "? 4"),
+        ("stamp", "? 5"),
+        ("stamp 1 2", "? 6"),
+        ("stamp\t1", "? 7"),
+        ("stamp 1\r", "? 8"),
+        ("stamp -1", "? 9"),
+        ("stamp 18446744073709551616", "? 10"),
+        ("stamp 00018446744073709551615", "0 18446744073709551615 0"),
+        (&long, "? 12"),
+        (&just, "0 7 0"),
+        (&comment, ""),
+        (&line::lend(Place::Accepted, HELD_AREA + 1), "? 15"),
+        ("put g 0 256", "? 16"),
+        ("link 1 2", "? 17"),
+        ("nothing", "? 18"),
+        ("stamp 5", "0 5 0"),
+    ]);
+}
+
+#[test]
+fn bytes_that_are_no_lines_of_text() {
     assert_eq!(play_bytes(b"stamp 1\n\n\nbad\n"), ["0 1 0", "? 4"]);
     assert_eq!(play_bytes(b"\xff\n#\xff\nstamp 2"), ["? 1", "0 2 0"]);
     assert!(play_bytes(b"").is_empty());
@@ -131,7 +120,7 @@ fn lines_across_small_buffers() {
 
 #[test]
 fn made_scripts_fill_every_cell() {
-    let mut tally = table::Tally::new();
+    let mut tally = tally::Tally::new();
     let mut made = Vec::new();
     make::make(1, 20_000, &mut made, &mut |made| tally.count(made)).unwrap();
     let (empty, strange) = tally.faults();

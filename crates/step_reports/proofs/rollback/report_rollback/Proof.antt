@@ -1,27 +1,34 @@
 -- `step_reports::rollback::report_rollback` meets its contract. Assumes nothing.
-use mathlib.Core.Path.{ap, _∙_}
-use Rattle.record.specs.declared.Record.{Record}
-use Rattle.wholeness.proofs.Passing.{shut, opened}
+use Rattle.record.specs.Given.{effectOf}
+use Rattle.wholeness.proofs.Passing.{barred-out, let-in}
 use Rattle.step_reports.specs.Done.{rollbackDone}
-use Rattle.step_reports.specs.Reports.{reported}
-use Rattle.step_reports.proofs.Admitted.{rollback-room}
+use Rattle.step_reports.specs.Reports.{reportRollbackBars, reportRollbackOwn}
+use Rattle.step_reports.proofs.Taken.{rollback-room, taking}
 use borrow.Author.Needs.{needs}
 use Rattle.step_reports.proofs.rollback.report_rollback.Statement.{statement}
 use Rattle.step_reports.proofs.rollback.report_rollback.Tie as tie
 
 returns : tie.Need-returns
-returns c = shut _ (c .before .before .before .before .report-gate .ensures) (c .before .before .gate .given .1) (c .refuse .ensures)
+unfolding reportRollbackOwn
+returns c =
+    let k = c .before .before .before .before in
+    let a = k .before .args in
+    barred-out _ (reportRollbackBars (a .r) (a .ticket)) (k .report-gate .ensures) (a .r) _ (c .before .before .gate .given .1) (c .refuse .ensures)
 
 rollback-done-requires : tie.Need-rollback-done-requires
-rollback-done-requires c κs = rw (c .with-ticket .ensures) (rollback-room _ _ _ _ (c .before .before .before .report-gate .ensures) (c .before .enum-told .given .1))
+rollback-done-requires c κs =
+    let k = c .before .before .before in
+    let a = k .before .args in
+    rw (c .with-ticket .ensures) (rollback-room _ _ (a .r) (a .ticket) (k .report-gate .ensures) (c .before .enum-told .given .1))
 
 returns-2 : tie.Need-returns-2
+unfolding reportRollbackOwn
 returns-2 c =
-    let o = c .before .before .before .before .before .before .args .outcome in
-    opened _ (c .before .before .before .before .before .report-gate .ensures) (c .before .before .before .enum-told .given .1)
-    (c .reported .ensures
-    ∙ ap (reported o (c .before .before .with-ticket .result)) (c .before .rollback-done .ensures)
-    ∙ ap (λ (x : Record). reported o x (rollbackDone x)) (c .before .before .with-ticket .ensures))
+    let w = c .before .before in
+    let k = w .before .before .before in
+    let a = k .before .args in
+    let-in _ (reportRollbackBars (a .r) (a .ticket)) (k .report-gate .ensures) (a .r) (w .before .enum-told .given .1)
+    (taking rollbackDone (effectOf (a .outcome)) (c .reported .ensures) (c .before .rollback-done .ensures) (w .with-ticket .ensures))
 
 pub report-rollback-spec : {M : Type 1} → statement M
 report-rollback-spec =

@@ -19,13 +19,16 @@ off r a = withBatch (r .entries - 1) a (r .attempted - 1) (r .restoring) r
 returns : tie.Need-returns
 unfolding rollbackDone
 returns c =
-    let r = c .before .before .before .before .before .args .r in
-    yes _ (search branches) (ap (answer Finished) (c .leaving .ensures ∙ ap (λ (a : ℕ). leaving (off r a)) (c .before .before .least .ensures)))
+    let k = c .before .before .before in
+    let r = k .before .before .before .args .r in
+    yes _ (search branches) (c .answering .ensures ∙ ap (answer Finished) (c .before .leaving .ensures ∙ ap (λ (a : ℕ). leaving (off r a)) (k .least .ensures)))
 
 returns-2 : tie.Need-returns-2
 unfolding rollbackDone
-returns-2 c = let r = c .before .before .before .before .args .r in no _ (search branches) (ap (λ (a : ℕ). answer More (off r a)) (c .before .least .ensures))
+returns-2 c =
+    let k = c .before .before in
+    let r = k .before .before .before .args .r in
+    no _ (search branches) (c .answering2 .ensures ∙ ap (λ (a : ℕ). answer More (off r a)) (k .least .ensures))
 
 pub rollback-done-spec : {M : Type 1} → statement M
-rollback-done-spec =
-    tie.close (tie.spec (search needs) (search needs) (search needs) (search needs) returns returns-2)
+rollback-done-spec = tie.close (tie.spec (search needs) (search needs) (search needs) (search needs) (search needs) returns (search needs) returns-2)

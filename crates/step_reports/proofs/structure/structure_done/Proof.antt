@@ -17,12 +17,16 @@ at-boundary r = boundary (r .phase .number)
 returns : tie.Need-returns
 unfolding structureDone
 returns c =
-    yes _ (told (c .before .boundary .ensures ∙ ap at-boundary (c .before .before .advanced .ensures)) (c .if1 .taken)) (ap (answer Finished) (c .before .before .advanced .ensures))
+    let k = c .before .before in
+    let e = k .before .advanced .ensures in
+    yes _ (told (k .boundary .ensures ∙ ap at-boundary e) (c .before .if1 .taken)) (c .answering .ensures ∙ ap (answer Finished) e)
 
 returns-2 : tie.Need-returns-2
 unfolding structureDone
 returns-2 c =
-    no _ (told (c .before .boundary .ensures ∙ ap at-boundary (c .before .before .advanced .ensures)) (c .if1 .left)) (ap (answer More) (c .before .before .advanced .ensures))
+    let k = c .before .before in
+    let e = k .before .advanced .ensures in
+    no _ (told (k .boundary .ensures ∙ ap at-boundary e) (c .before .if1 .left)) (c .answering2 .ensures ∙ ap (answer More) e)
 
 pub structure-done-spec : {M : Type 1} → statement M
-structure-done-spec = tie.close (tie.spec (search needs) (search needs) returns returns-2)
+structure-done-spec = tie.close (tie.spec (search needs) (search needs) (search needs) returns (search needs) returns-2)

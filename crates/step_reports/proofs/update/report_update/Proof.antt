@@ -1,27 +1,36 @@
 -- `step_reports::update::report_update` meets its contract. Assumes nothing.
-use mathlib.Core.Path.{ap, _∙_}
-use Rattle.record.specs.declared.Record.{Record}
-use Rattle.wholeness.proofs.Passing.{shut, opened}
+use mathlib.Core.List.{[]}
+use Rattle.record.specs.Live.{update}
+use Rattle.record.specs.Given.{effectOf}
+use Rattle.wholeness.proofs.Passing.{barred-out, let-in}
 use Rattle.step_reports.specs.Done.{updateDone}
-use Rattle.step_reports.specs.Reports.{reported}
-use Rattle.step_reports.proofs.Admitted.{update-room}
+use Rattle.step_reports.specs.Reports.{reportUpdateBars, reportUpdateOwn}
+use Rattle.step_reports.proofs.Taken.{update-room, taking}
 use borrow.Author.Needs.{needs}
 use Rattle.step_reports.proofs.update.report_update.Statement.{statement}
 use Rattle.step_reports.proofs.update.report_update.Tie as tie
 
 returns : tie.Need-returns
-returns c = shut _ (c .before .before .before .before .report-gate .ensures) (c .before .before .gate .given .1) (c .refuse .ensures)
+unfolding reportUpdateOwn
+returns c =
+    let k = c .before .before .before .before in
+    let a = k .before .args in
+    barred-out _ (reportUpdateBars (a .r) (a .ticket)) (k .report-gate .ensures) (a .r) _ (c .before .before .gate .given .1) (c .refuse .ensures)
 
 update-done-requires : tie.Need-update-done-requires
-update-done-requires c κs = rw (c .with-ticket .ensures) (update-room _ _ _ _ _ (c .before .before .before .report-gate .ensures) (c .before .enum-told .given .1))
+update-done-requires c κs =
+    let k = c .before .before .before in
+    let a = k .before .args in
+    rw (c .with-ticket .ensures) (update-room _ _ (a .r) update (a .ticket) [] (k .report-gate .ensures) (c .before .enum-told .given .1))
 
 returns-2 : tie.Need-returns-2
+unfolding reportUpdateOwn
 returns-2 c =
-    let o = c .before .before .before .before .before .before .args .outcome in
-    opened _ (c .before .before .before .before .before .report-gate .ensures) (c .before .before .before .enum-told .given .1)
-    (c .reported .ensures
-    ∙ ap (reported o (c .before .before .with-ticket .result)) (c .before .update-done .ensures)
-    ∙ ap (λ (x : Record). reported o x (updateDone x)) (c .before .before .with-ticket .ensures))
+    let w = c .before .before in
+    let k = w .before .before .before in
+    let a = k .before .args in
+    let-in _ (reportUpdateBars (a .r) (a .ticket)) (k .report-gate .ensures) (a .r) (w .before .enum-told .given .1)
+    (taking updateDone (effectOf (a .outcome)) (c .reported .ensures) (c .before .update-done .ensures) (w .with-ticket .ensures))
 
 pub report-update-spec : {M : Type 1} → statement M
 report-update-spec =

@@ -1,5 +1,5 @@
 -- `step_reports::update::update_done` meets its contract. Assumes nothing.
-use mathlib.Core.Path.{refl, ap}
+use mathlib.Core.Path.{_∙_, ap}
 use Rattle.choice.proofs.Picks.{yes, no}
 use Rattle.choice.proofs.Tests.{branches}
 use Rattle.record.specs.Answers.{answer}
@@ -11,11 +11,11 @@ use Rattle.step_reports.proofs.update.update_done.Tie as tie
 
 returns : tie.Need-returns
 unfolding updateDone
-returns c = yes _ (search branches) (ap (answer Finished) (c .adopting .ensures))
+returns c = yes _ (search branches) (c .answering .ensures ∙ ap (answer Finished) (c .before .adopting .ensures))
 
 returns-2 : tie.Need-returns-2
 unfolding updateDone
-returns-2 c = no _ (search branches) refl
+returns-2 c = no _ (search branches) (c .answering2 .ensures)
 
 pub update-done-spec : {M : Type 1} → statement M
-update-done-spec = tie.close (tie.spec (search needs) (search needs) returns returns-2)
+update-done-spec = tie.close (tie.spec (search needs) (search needs) (search needs) returns (search needs) returns-2)

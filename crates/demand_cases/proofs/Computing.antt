@@ -1,0 +1,89 @@
+-- Calls and chains to be computed: to unfold one of these definitions is to unfold all that it computes by, so that those who compute
+-- name it alone. Assumes nothing.
+use Prim.Native.Nat.{ℕ}
+use mathlib.Core.Path.{_≡_, refl}
+use mathlib.Core.Bool.{Bool, true}
+use mathlib.Core.List.{List, map}
+use Rattle.choice.specs.Pick.{pick, _and_, _or_, _implies_}
+use Rattle.phases.specs.Phases.{hasSuccessor, successor, boundary}
+use Rattle.areas.specs.Areas.{long, sized, copied}
+use Rattle.batch.specs.Batch.{tableSized, paired, pairsIn, stored}
+use Rattle.record.specs.Classes.{refused, stepWritten, callWritten}
+use Rattle.record.specs.Answers.{Told}
+use Rattle.record.specs.Live.{isLive}
+use Rattle.record.specs.Fields.{adopting}
+use Rattle.record.specs.declared.Record.{Record}
+use Rattle.wholeness.specs.Whole.{lengthsFit, countsFit, stagedFits, forwardFits, backFits, restoringFits, liveFits, whole, complete}
+use Rattle.wholeness.specs.Gates.{gateOf, gated}
+use Rattle.step_begins.specs.Opening.{opening, openStep}
+use Rattle.step_begins.specs.Beginning.{firstPhase, begun, beginOwn, editOwn}
+use Rattle.step_asks.specs.Asks.{askStructureOwn, askUpdateOwn, askRollbackOwn, turned}
+use Rattle.step_reports.specs.Done.{onward, advanced, structureDone, updateDone, least, leaving, rollbackDone}
+use Rattle.step_reports.specs.Reports.{behind, reportGate, reported, reportStructureOwn}
+use Rattle.step_ends.specs.Ending.{idleAt, commitOwn, unrestored, recoverOwn, recoverRetainedOwn, refreshOwn}
+use Rattle.step_stamps.specs.Stamping.{stampStep, passes, checkStep}
+use Rattle.log.specs.Log.{logSized, headSound, sound, full, appended, blank}
+use Rattle.events.specs.Entries.{noted}
+use Rattle.noting.specs.Recorded.{withLog, recorded}
+use Rattle.noting.specs.Through.{leavesThrough}
+use Rattle.calls.specs.Calls.{Call, step}
+use Rattle.calls.specs.Kinds.{kindOf, writtenAs}
+use Rattle.demand_logs.specs.Logged.{Logged, loggedStep, logged, events}
+use Rattle.demand_logs.specs.Holding.{Held, Doing, afterHeld, heardHeld}
+use Rattle.demand_chains.specs.Sending.{Sent, answered, afterSent, heardSent}
+use Rattle.demand_steps.specs.Watching as W
+use Rattle.demand_steps.specs.Watching.{Heard, hears, Watch, performed, granted, sees, watch, unwatched}
+
+-- a call on a record
+unfoldable pub called : Record → Call → Told
+unfolding pick _and_ _or_ _implies_ hasSuccessor successor boundary long isLive adopting lengthsFit countsFit stagedFits forwardFits backFits restoringFits liveFits whole complete gateOf gated opening openStep firstPhase begun beginOwn editOwn askStructureOwn askUpdateOwn askRollbackOwn turned onward advanced structureDone updateDone least leaving rollbackDone behind reportGate reported reportStructureOwn idleAt commitOwn unrestored recoverOwn recoverRetainedOwn refreshOwn stampStep passes checkStep
+called r c = step r c
+
+abbrev pub performs : Record → Call → Bool
+performs r c = performed (hears c (called r c) .answer)
+
+abbrev pub grants : Record → Call → Bool
+grants r c = granted (hears c (called r c) .answer)
+
+-- a chain of calls as they are sent: the record that is reached, what the watcher then knows, and the numbers that are answered
+unfoldable pub reached : Record → List Sent → Record
+unfolding called kindOf writtenAs answered afterSent
+reached r ss = afterSent r ss
+
+unfoldable pub known : Watch → Record → List Sent → Watch
+unfolding reached heardSent W.reported sees watch
+known w r ss = watch w (heardSent r ss)
+
+unfoldable pub numbers : Record → List Sent → List ℕ
+unfolding reached heardSent
+numbers r ss = map (λ (h : Heard). h .answer .number) (heardSent r ss)
+
+-- a chain through the recorder, an opening before it, and the events of the plain one
+unfoldable pub throughLog : Record → List ℕ → List Call → Logged
+unfolding reached logSized headSound sound full appended blank sized withLog recorded leavesThrough noted events loggedStep logged
+throughLog r log cs = logged r log cs
+
+-- a chain of real calls
+unfoldable pub heldAfter : Held → List Doing → Held
+unfolding throughLog copied tableSized paired pairsIn stored afterHeld
+heldAfter h ds = afterHeld h ds
+
+unfoldable pub heldSeen : Held → List Doing → Watch
+unfolding heldAfter heardHeld W.reported sees watch unwatched
+heldSeen h ds = watch unwatched (heardHeld h ds)
+
+-- from an opening at revision 7 and serial 0, with a payload of 3 bytes, which is not refused
+abbrev pub start : Record
+start = openStep true 7 0 3 .state
+
+pub opens : openStep true 7 0 3 .number ≡ 0
+unfolding called
+opens = refl
+
+unfoldable pub now : List Sent → Record
+unfolding reached
+now ss = reached start ss
+
+unfoldable pub seen : List Sent → Watch
+unfolding known unwatched
+seen ss = known unwatched start ss

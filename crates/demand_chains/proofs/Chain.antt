@@ -1,0 +1,54 @@
+-- Every chain from a whole record keeps it whole, and what the watcher knows tied to it. Assumes nothing.
+use Prim.Native.Nat.{_≤_}
+use mathlib.Core.Path.{_≡_}
+use mathlib.Core.Bool.{true}
+use mathlib.Core.List.{List, [], _∷_}
+use Rattle.record.specs.Answers.{Told, said}
+use Rattle.record.specs.Fields.{top}
+use Rattle.record.specs.declared.Record.{Record}
+use Rattle.wholeness.specs.Whole.{whole}
+use Rattle.calls.specs.Calls.{Call, step}
+use Rattle.demand_chains.specs.Sending.{Sent, answered, afterSent, heardSent}
+use Rattle.demand_steps.specs.Watching.{Watch, sees, watch}
+use Rattle.demand_steps.proofs.Own.{own, whole-step}
+use Rattle.demand_steps.proofs.Leaf.{Leaf}
+use Rattle.demand_steps.proofs.Classify.{leaf}
+use Rattle.demand_chains.proofs.Sending.{sent-leaf}
+use Rattle.demand_steps.proofs.Facts.{Whole}
+use Rattle.demand_steps.proofs.Reading.{whole-facts}
+use Rattle.demand_steps.proofs.Wholeness.{whole-test}
+use Rattle.demand_steps.proofs.Calming.{range}
+use Rattle.demand_steps.proofs.Preserve.{preserve}
+use Rattle.demand_chains.proofs.Noting.{Tied}
+use Rattle.demand_chains.proofs.Tying.{tie}
+
+-- a whole record is not refused as Damaged
+pub undamaged : {r : Record} (c : Call) → Whole r → step r c ≡ own r c
+undamaged {r} c w = whole-step r c (whole-test w)
+
+-- demand 2: wholeness is kept by every call; the revision is a u64
+module _ (r : Record) (m : r .revision ≤ top) (h : whole r ≡ true) where
+  kept-by : {c : Call} {x : Told} → Leaf r c x → (whole (x .state) ≡ true) × (x .state .revision ≤ top)
+  kept-by l = let y = preserve (whole-facts r m h) l in (whole-test y, range (y .calm))
+
+pub whole-kept : (r : Record) (c : Call) → r .revision ≤ top → whole r ≡ true → (whole (step r c .state) ≡ true) × (step r c .state .revision ≤ top)
+whole-kept r c m h = kept-by r m h (leaf r c)
+
+-- and in every chain
+pub whole-chain : (r : Record) (ss : List Sent) → r .revision ≤ top → whole r ≡ true → whole (afterSent r ss) ≡ true
+unfolding afterSent
+whole-chain r [] m h = h
+whole-chain r (s ∷ ss) m h = let x = kept-by r m h (sent-leaf r s) in whole-chain (answered r s .state) ss (x .1) (x .0)
+
+pub record Good (w : Watch) (r : Record) : Type 0 where
+  pub is-whole : Whole r
+  pub tied : Tied w r
+
+-- a call keeps it so
+pub good-leaf : {w : Watch} {r : Record} {c : Call} {x : Told} → Good w r → Leaf r c x → Good (sees w c (said (x .number) (x .values))) (x .state)
+good-leaf {w} g l = record { is-whole = preserve (g .is-whole) l; tied = tie w (g .is-whole) (g .tied) l }
+
+pub good-chain : (w : Watch) (r : Record) (ss : List Sent) → Good w r → Good (watch w (heardSent r ss)) (afterSent r ss)
+unfolding watch heardSent afterSent
+good-chain w r [] g = g
+good-chain w r (s ∷ ss) g = good-chain _ _ ss (good-leaf g (sent-leaf r s))

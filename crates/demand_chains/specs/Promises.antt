@@ -1,0 +1,41 @@
+-- Demands 2 and 3, sentence by sentence, of a record and of what the watcher knows: w is known when r is reached. Assumes nothing.
+use Prim.Native.Nat.{ℕ, _+_, _≤_}
+use mathlib.Core.Path.{_≡_}
+use mathlib.Core.Bool.{Bool, true, not}
+use mathlib.Core.Logic.{_≢_}
+use lib.Dec.{eqb}
+use lib.ListN.{length}
+use Rattle.choice.specs.Pick.{_and_}
+use Rattle.record.specs.Fields.{top}
+use Rattle.record.specs.declared.Record.{Record}
+use Rattle.calls.specs.Calls.{Call, step}
+use Rattle.calls.specs.Calls.Call.{commit, recoverRetained}
+use Rattle.demand_steps.specs.Watching.{hears, Watch, performed, granted}
+use Rattle.demand_chains.specs.Plans.{planned, planAt, plannedBack, backAt, firsts, due}
+
+-- "a stamp taken in it passes exactly if nothing is staged, the domain is equal and no commit has succeeded since it was taken"
+unfoldable pub stampPasses : Bool → ℕ → ℕ → ℕ → Bool
+stampPasses staged domain stampDomain commits = not staged and eqb domain stampDomain and eqb commits 0
+
+-- "the revision is the opening one plus the successful commits"
+abbrev pub revisionAfter : ℕ → ℕ → ℕ
+revisionAfter opening commits = opening + commits
+
+-- "commit succeeds exactly after 5 + n Done reports that are taken (n if update-only), in the fixed order"
+pub record Forward (r : Record) (w : Watch) : Type 0 where
+  pub order : w .done ≡ firsts (planAt (w .structural) (w .size)) (length (w .done))
+  pub within : length (w .done) ≤ planned (w .structural) (w .size)
+  pub exact : performed (hears commit (step r commit) .answer) ≡ eqb (length (w .done)) (planned (w .structural) (w .size))
+
+-- "with k updates started, recovery from the retained payload succeeds exactly after k + 4 further Done reports that are taken (k if
+-- update-only), the k undos in reverse order"
+pub record Backward (r : Record) (w : Watch) : Type 0 where
+  pub order : w .undone ≡ firsts (backAt (w .started)) (length (w .undone))
+  pub within : length (w .undone) ≤ plannedBack (w .structural) (w .started)
+  pub exact : performed (hears recoverRetained (step r recoverRetained) .answer) ≡ eqb (length (w .undone)) (plannedBack (w .structural) (w .started))
+
+-- "the due asking of document 01 is granted, unless the serial is at its maximum"
+pub record Asking (r : Record) : Type 0 where
+  pub call : Call
+  pub is-due : due r call ≡ true
+  pub is-granted : r .serial ≢ top → granted (hears call (step r call) .answer) ≡ true

@@ -1,0 +1,11 @@
+pub mod Unique
+pub mod NeverFull
+pub mod Rows
+pub mod OneRow
+pub mod Refusals
+pub mod ExactRefusals
+pub mod Transaction
+pub mod Written
+pub mod Logged
+pub mod Recorder
+pub mod Marks

@@ -1,0 +1,77 @@
+-- Demand 1 for the recorder: through the log a call answers 12 exactly where its inner answer is to be written and the log is full, and
+-- else that answer; a refusal returns the record that was given and leaves all that was lent, but for the log entry of an ask answered 4
+-- or 5. Assumes nothing.
+use Prim.Native.Nat.{ℕ}
+use mathlib.Core.Path.{_≡_, refl, sym, _∙_, ap}
+use mathlib.Core.Bool.{Bool, true, false}
+use mathlib.Core.List.{List, _∷_}
+use lib.Dec.{eqb, ltb}
+use borrow.Author.Tests.{eq-eqb}
+use Rattle.choice.specs.Pick.{pick, _or_}
+use Rattle.choice.proofs.Picks.{yes}
+use Rattle.choice.proofs.Tests.{never, no-left, tests}
+use Rattle.record.specs.Classes.{refused}
+use Rattle.record.specs.declared.Record.{Record}
+use Rattle.log.specs.Log.{full}
+use Rattle.calls.specs.Lending.{Lending, callOf, lent}
+use Rattle.calls.specs.Kinds.{kind, writtenAs}
+use Rattle.noting.specs.Through.{inner, leavesThrough}
+use Rattle.demand_refusals.specs.Rows.{among, distinct, count}
+use Rattle.demand_refusals.specs.Refusals.{returned, numbersOf}
+use Rattle.demand_refusals.specs.Through.{givenThrough, numbersThrough, logAfter}
+use Rattle.demand_refusals.proofs.OneRow.{one-passes, apart}
+use Rattle.demand_refusals.proofs.ExactRefusals.{all-listed, exact-refusals, listed-answer}
+use Rattle.demand_refusals.proofs.Logged.{ends-as}
+
+tested : (b : Bool) (x y : ℕ) (f : ℕ → Bool) {p q : Bool} → f x ≡ p → f y ≡ q → f (pick b x y) ≡ pick b p q
+unfolding pick
+tested true x y f e g = e
+tested false x y f e g = g
+
+either-way : (a : Bool) {b : Bool} → b ≡ true → a or b ≡ true
+unfolding _or_
+either-way true e = refl
+either-way false e = e
+
+-- a call of no kind is not written
+no-kind : (k n : ℕ) → ltb 0 k ≡ false → writtenAs k n ≡ false
+unfolding writtenAs
+no-kind k n h = sym (yes _ (eq-eqb k 0 (omega tests)) refl)
+
+-- 12 is given only where it is listed
+twelve-listed : (b k : Bool) (n : ℕ) (ns : List ℕ) → (k ≡ false → b ≡ false) → among n ns ≡ true → among (pick b 12 n) (pick k (12 ∷ ns) ns) ≡ true
+unfolding pick among _or_
+twelve-listed true true n ns e h = refl
+twelve-listed true false n ns e h = never (e refl)
+twelve-listed false true n ns e h = either-way (eqb 12 n) h
+twelve-listed false false n ns e h = h
+
+distinct-through : (k : Bool) (ns : List ℕ) → distinct (12 ∷ ns) ≡ true → distinct (pick k (12 ∷ ns) ns) ≡ true
+unfolding pick
+distinct-through true ns d = d
+distinct-through false ns d = apart ns d
+
+module _ (r : Record) (log : List ℕ) (c : Lending true) where
+  abbrev n : ℕ
+  n = inner r log c .number
+
+  pub recorder-exact : (k : ℕ) → eqb (leavesThrough r log c .told .number) k ≡ givenThrough r log c k
+  unfolding givenThrough
+  recorder-exact k = ap (λ (m : ℕ). eqb m k) (ends-as r log c .number) ∙ tested _ 12 n (λ (m : ℕ). eqb m k) refl (exact-refusals _ _ r (callOf c) k)
+
+  pub recorder-listed : among (leavesThrough r log c .told .number) (numbersThrough c) ≡ true
+  unfolding numbersThrough
+  recorder-listed =
+      ap (λ (m : ℕ). among m (numbersThrough c)) (ends-as r log c .number)
+      ∙ twelve-listed _ _ n (numbersOf (callOf c)) (λ e. no-left (full log) (no-kind (kind c) n e)) (listed-answer _ _ r (callOf c))
+
+  -- exactly one answer is given
+  pub recorder-one : count (givenThrough r log c) (numbersThrough c) ≡ 1
+  unfolding numbersThrough
+  recorder-one =
+      one-passes _ (givenThrough r log c) (numbersThrough c) recorder-exact (distinct-through _ (numbersOf (callOf c)) (all-listed true true r (callOf c) .1)) recorder-listed
+
+  pub recorder-refusal : refused (leavesThrough r log c .told .class) ≡ true
+      → (leavesThrough r log c .told .state ≡ returned r (callOf c))
+      × (leavesThrough r log c .lent ≡ logAfter r log (kind c) (leavesThrough r log c .told .number) ∷ lent c)
+  recorder-refusal = ends-as r log c .refusal

@@ -1,0 +1,4 @@
+pub mod Rows
+pub mod Refusals
+pub mod Through
+pub mod Marks

@@ -1,0 +1,126 @@
+-- Document 01, "What a call answers" and "The steps": for each call, the numbers that it answers in the order given, each with its
+-- test in the document's words. Assumes nothing.
+use Prim.Native.Nat.{ℕ, _+_, _-_}
+use mathlib.Core.Bool.{Bool, true, false, not}
+use mathlib.Core.List.{List, [], _∷_}
+use lib.Dec.{eqb, leb, ltb}
+use Rattle.choice.specs.Pick.{_and_, _or_}
+use Rattle.phases.specs.Phases.{boundary}
+use Rattle.areas.specs.Areas.{long}
+use Rattle.batch.specs.Batch.{limit}
+use Rattle.record.specs.Fields.{top}
+use Rattle.record.specs.Live.{isLive}
+use Rattle.record.specs.Live as Tickets
+use Rattle.record.specs.declared.Record.{Record}
+use Rattle.record.specs.declared.Outcome.{Outcome}
+use Rattle.record.specs.declared.Outcome.the-variants as O
+use Rattle.wholeness.specs.Whole.{whole, complete}
+use Rattle.step_asks.specs.Asks.{worn}
+use Rattle.calls.specs.Calls.{AnyCall}
+use Rattle.calls.specs.Calls.AnyCall.{opens, calls}
+use Rattle.calls.specs.Calls.Work.{structure, update, rollback}
+use Rattle.calls.specs.Calls.Report.{structured, updated, rolledBack}
+use Rattle.calls.specs.Calls.Call.{begin, ask, report, edit, commit, recover, recoverRetained, refresh, stamp, check}
+use Rattle.calls.specs.Lending.{unopened}
+use Rattle.demand_refusals.specs.Rows.{Row, _when_, otherwise}
+
+-- the record that a refusal returns: "equal (a refused opening, which is given none, returns the one document 01 names)", which is
+-- "the record of an opening at 0, 0 with an empty payload"
+unfoldable pub returned : Record → AnyCall → Record
+returned r (opens revision serial accepted) = unopened
+returned r (calls c) = r
+
+abbrev pub phaseIs : ℕ → Record → Bool
+phaseIs p r = eqb (r .phase .number) p
+
+abbrev pub waiting : Outcome → Bool
+waiting O.Waiting = true
+waiting (O.Failed code) = false
+waiting O.Done = false
+
+abbrev pub failed : Outcome → Bool
+failed O.Waiting = false
+failed (O.Failed code) = true
+failed O.Done = false
+
+-- "Order: 6, 7, then the call's own in the order below"; 6: "an area, table, pair list or log of a wrong size"; 7: "record not whole;
+-- log head .. not sound"
+abbrev pub gateRows : Bool → Bool → Record → List Row → List Row
+gateRows sized sound r own = 6 when not sized ∷ 7 when not (sound and whole r) ∷ own
+
+-- "Begin, begin structural: 1, 3, 8, 9."; 1: "while staged"; 3: "at revision 18446744073709551615"; 9: "over 64 actions"
+abbrev pub beginRows : Record → ℕ → ℕ → ℕ → List Row
+beginRows r c o n = 1 when r .staged ∷ 3 when eqb (r .revision) top ∷ 8 when (long c or long o) ∷ 9 when ltb limit n ∷ 0 when otherwise ∷ []
+
+-- "2; 4 if entries > 0 or phase not 0 or 13"; 2: "while not staged"
+abbrev pub recoverRows : Record → List Row → List Row
+recoverRows r own = 2 when not (r .staged) ∷ 4 when (ltb 0 (r .entries) or not (phaseIs 0 r or phaseIs 13 r)) ∷ own
+
+-- "Waiting and Failed answer 21 and 22"; Done answers "Finished" at the last, "else More"
+abbrev pub reportRows : Outcome → Bool → List Row
+reportRows outcome last = 21 when waiting outcome ∷ 22 when failed outcome ∷ 24 when last ∷ 23 when otherwise ∷ []
+
+unfoldable pub rows : Bool → Bool → Record → AnyCall → List Row
+-- "Open ..: Refuses 6, 8"
+rows sized sound r (opens revision serial accepted) = 6 when not sized ∷ 8 when long accepted ∷ 0 when otherwise ∷ []
+rows sized sound r (calls (begin structural c o n)) = gateRows sized sound r (beginRows r c o n)
+-- "phases 0, 5, 8 give 4; 7 and 13 give Finished; else 11, or a ticket"
+rows sized sound r (calls (ask structure)) =
+    gateRows sized sound r
+    (4 when (phaseIs 0 r or phaseIs 5 r or phaseIs 8 r) ∷ 24 when (phaseIs 7 r or phaseIs 13 r) ∷ 11 when worn r ∷ 20 when otherwise ∷ [])
+-- "phase neither 0 nor 5, or restoring, gives 5; applied = entries gives Finished ..; else 11, or a ticket"
+rows sized sound r (calls (ask update)) =
+    gateRows sized sound r
+    (5 when (not (phaseIs 0 r or phaseIs 5 r) or r .restoring) ∷ 24 when eqb (r .applied) (r .entries) ∷ 11 when worn r ∷ 20 when otherwise ∷ [])
+-- "in phases 9 to 13 Finished .. Else 11 if attempted > 0 and the serial is at its maximum. Else .. entries = attempted .. With no
+-- entries: Finished .. Else a ticket". Finished stands twice, so 11 comes first, with the phase in its test
+rows sized sound r (calls (ask rollback)) =
+    gateRows sized sound r
+    (11 when (not (leb 9 (r .phase .number)) and (ltb 0 (r .attempted) and worn r))
+    ∷ 24 when (leb 9 (r .phase .number) or eqb (r .attempted) 0)
+    ∷ 20 when otherwise
+    ∷ [])
+-- "Report structure (both payloads): 10, 8. Done goes to the successor .. and answers Finished at a boundary, else More."
+rows sized sound r (calls (report (structured c o) t x)) =
+    gateRows sized sound r
+    (10 when not (isLive Tickets.structure t (r .live)) ∷ 8 when (long c or long o) ∷ reportRows x (boundary (r .phase .number + 1)))
+-- "Report update ..: 10. Done raises applied; at the last Finished, .. else More."
+rows sized sound r (calls (report updated t x)) =
+    gateRows sized sound r (10 when not (isLive Tickets.update t (r .live)) ∷ reportRows x (eqb (r .applied + 1) (r .entries)))
+-- "Report rollback ..: 10. Done takes that action off: entries .. fall ..; at zero Finished, .. else More."
+rows sized sound r (calls (report rolledBack t x)) =
+    gateRows sized sound r (10 when not (isLive Tickets.rollback t (r .live)) ∷ reportRows x (eqb (r .entries - 1) 0))
+-- "Edit replaces both payloads: 2, 8."
+rows sized sound r (calls (edit c o)) = gateRows sized sound r (2 when not (r .staged) ∷ 8 when (long c or long o) ∷ 0 when otherwise ∷ [])
+-- "Commit: 2; 4 if not complete or phase not 0 or 7."
+rows sized sound r (calls commit) =
+    gateRows sized sound r
+    (2 when not (r .staged) ∷ 4 when (not (complete r) or not (phaseIs 0 r or phaseIs 7 r)) ∷ 0 when otherwise ∷ [])
+-- "Recover ..: 2; 4 ..; 8."
+rows sized sound r (calls (recover n)) = gateRows sized sound r (recoverRows r (8 when long n ∷ 0 when otherwise ∷ []))
+-- "Recover from the retained payload: 2, 4 alike"
+rows sized sound r (calls recoverRetained) = gateRows sized sound r (recoverRows r (0 when otherwise ∷ []))
+-- "Refresh: 1, 8"
+rows sized sound r (calls (refresh n)) = gateRows sized sound r (1 when r .staged ∷ 8 when long n ∷ 0 when otherwise ∷ [])
+-- "Stamp .., refused 1"; nothing is lent, so that there is no 6
+rows sized sound r (calls (stamp domain)) = 7 when not (whole r) ∷ 1 when r .staged ∷ 0 when otherwise ∷ []
+-- "checking a stamp answers yes, no or 7"
+rows sized sound r (calls (check domain d v)) = 7 when not (whole r) ∷ 0 when otherwise ∷ []
+
+-- the numbers that document 01 lists for each call, as they stand in its rows
+unfoldable pub numbersOf : AnyCall → List ℕ
+numbersOf (opens revision serial accepted) = 6 ∷ 8 ∷ 0 ∷ []
+numbersOf (calls (begin structural c o n)) = 6 ∷ 7 ∷ 1 ∷ 3 ∷ 8 ∷ 9 ∷ 0 ∷ []
+numbersOf (calls (ask structure)) = 6 ∷ 7 ∷ 4 ∷ 24 ∷ 11 ∷ 20 ∷ []
+numbersOf (calls (ask update)) = 6 ∷ 7 ∷ 5 ∷ 24 ∷ 11 ∷ 20 ∷ []
+numbersOf (calls (ask rollback)) = 6 ∷ 7 ∷ 11 ∷ 24 ∷ 20 ∷ []
+numbersOf (calls (report (structured c o) t x)) = 6 ∷ 7 ∷ 10 ∷ 8 ∷ 21 ∷ 22 ∷ 24 ∷ 23 ∷ []
+numbersOf (calls (report updated t x)) = 6 ∷ 7 ∷ 10 ∷ 21 ∷ 22 ∷ 24 ∷ 23 ∷ []
+numbersOf (calls (report rolledBack t x)) = 6 ∷ 7 ∷ 10 ∷ 21 ∷ 22 ∷ 24 ∷ 23 ∷ []
+numbersOf (calls (edit c o)) = 6 ∷ 7 ∷ 2 ∷ 8 ∷ 0 ∷ []
+numbersOf (calls commit) = 6 ∷ 7 ∷ 2 ∷ 4 ∷ 0 ∷ []
+numbersOf (calls (recover n)) = 6 ∷ 7 ∷ 2 ∷ 4 ∷ 8 ∷ 0 ∷ []
+numbersOf (calls recoverRetained) = 6 ∷ 7 ∷ 2 ∷ 4 ∷ 0 ∷ []
+numbersOf (calls (refresh n)) = 6 ∷ 7 ∷ 1 ∷ 8 ∷ 0 ∷ []
+numbersOf (calls (stamp domain)) = 7 ∷ 1 ∷ 0 ∷ []
+numbersOf (calls (check domain d v)) = 7 ∷ 0 ∷ []

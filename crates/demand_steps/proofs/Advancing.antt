@@ -1,0 +1,53 @@
+-- Two ways to a whole record: a structure report that is taken, and the end of a transaction. Assumes nothing.
+use Prim.Native.Nat.{ℕ, _≤_, _<_}
+use mathlib.Core.Path.{_≡_, refl}
+use mathlib.Core.Bool.{true}
+use native.Mathlib.Omega.{arith}
+use Rattle.phases.specs.Phases.{hasSuccessor}
+use Rattle.areas.specs.Areas.{areaSize}
+use Rattle.record.specs.Fields.{top, spent}
+use Rattle.record.specs.declared.Record.{Record}
+use Rattle.step_reports.specs.Done.{advanced}
+use Rattle.step_reports.specs.Reports.{storing}
+use Rattle.step_ends.specs.Ending.{idleAt}
+use Rattle.demand_steps.proofs.Leaf.{Apart}
+use Rattle.demand_steps.proofs.Facts.{Lengths, Whole, byCase}
+use Rattle.demand_steps.proofs.Facts.Stage.{flat}
+use Rattle.demand_steps.proofs.Facts.Calm.{off}
+use Rattle.demand_steps.proofs.Testing.{ranges}
+use Rattle.demand_steps.proofs.Wholeness.{successor-test}
+use Rattle.demand_steps.proofs.Moves.{goes-up, goes-down, inAlong, up, down}
+use Rattle.demand_steps.proofs.Calming.{busy}
+
+-- a structure report that is taken
+pub advances : {r : Record} {new old : ℕ} → Whole r → Apart (r .phase .number) → new ≤ areaSize → old ≤ areaSize → Whole (advanced (spent (storing new old r)))
+advances {r} {new} {old} w y i j =
+    let q : Record = spent (storing new old r) in
+    let s : hasSuccessor (r .phase .number) ≡ true = successor-test _ (ranges (w .stage) .bound) y in
+    let l : Lengths (r .accepted) new old = record { accepted = w .lengths .accepted; candidate = i; recovery = j } in
+    byCase 6 (r .phase .number)
+    (λ (h : 6 < r .phase .number). rw (goes-down q s h) record {
+      lengths = l;
+      size = w .size;
+      stage = down (inAlong (w .stage) y) h;
+      ticket = tt;
+      calm = busy (w .calm) (λ z n i. y .not0 z);
+    })
+    (λ (h : r .phase .number ≤ 6). rw (goes-up q s h) record {
+      lengths = l;
+      size = w .size;
+      stage = up (inAlong (w .stage) y) h (w .size .order);
+      ticket = tt;
+      calm = busy (w .calm) (λ z n i. y .not0 z);
+    })
+
+-- idle, with a revision and an accepted length
+pub idles : (v a : ℕ) (r : Record) → v ≤ top → a ≤ areaSize → Whole (idleAt v a r)
+unfolding idleAt
+idles v a r m l = record {
+  lengths = record { accepted = l; candidate = omega arith; recovery = omega arith };
+  size = omega arith;
+  stage = flat refl refl refl refl;
+  ticket = tt;
+  calm = off refl m refl refl refl;
+}

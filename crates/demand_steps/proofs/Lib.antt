@@ -1,0 +1,15 @@
+pub mod Own
+pub mod Unseen
+pub mod Leaf
+pub mod Classify
+pub mod Facts
+pub mod Reading
+pub mod Testing
+pub mod Wholeness
+pub mod Moves
+pub mod Tickets
+pub mod Calming
+pub mod Advancing
+pub mod Preserve
+pub mod Reopening
+pub mod Keeping

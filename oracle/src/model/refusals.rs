@@ -1,0 +1,56 @@
+//! When each of a call's own refusals is given. Their order stands in the table
+//! of calls.
+//!
+//! Written from document 01 alone.
+
+use super::call::actions;
+use super::{phase, Call, Record};
+use crate::answer::Refusal;
+use crate::sizes::{AREA, MAX_ACTIONS, TOP};
+
+/// The first of a call's own refusals that is given, sizes being right and the
+/// record whole.
+pub(super) fn own(record: &Record, call: &Call) -> Result<(), Refusal> {
+    let row = call.about().refusals.iter().map(|refusal| (given(*refusal, record, call), *refusal));
+    Refusal::first(&row.collect::<Vec<_>>())
+}
+
+fn given(refusal: Refusal, record: &Record, call: &Call) -> bool {
+    match refusal {
+        Refusal::Pending => record.staged,
+        Refusal::Idle => !record.staged,
+        Refusal::Capacity => record.revision == TOP,
+        Refusal::NotReady => not_ready(record, call),
+        Refusal::Recovering => !record.updates(),
+        Refusal::TooLong => too_long(call),
+        Refusal::TooMany => actions(call.pairs()) > MAX_ACTIONS,
+        Refusal::Stale => call.ticket() != record.live,
+        Refusal::Worn => gives_ticket(record, call) && record.serial == TOP,
+        Refusal::BadArea | Refusal::Damaged | Refusal::LogFull | Refusal::NoStatus => {
+            unreachable!("no refusal of a call's own in the transaction")
+        }
+    }
+}
+
+/// Whether a payload that the call is given is too long.
+fn too_long(call: &Call) -> bool {
+    call.lengths().iter().any(|length| *length > AREA)
+}
+
+fn not_ready(record: &Record, call: &Call) -> bool {
+    match call {
+        Call::Ask(_) => matches!(record.phase, phase::NONE | phase::UPDATES | phase::UNDO),
+        Call::Commit => !record.complete() || !matches!(record.phase, phase::NONE | phase::READY),
+        Call::Recover { .. } | Call::RecoverRetained => {
+            record.entries > 0 || !matches!(record.phase, phase::NONE | phase::RECOVERED)
+        }
+        _ => unreachable!("no other call is refused so"),
+    }
+}
+
+fn gives_ticket(record: &Record, call: &Call) -> bool {
+    match call {
+        Call::Ask(work) => record.has_left(*work),
+        _ => unreachable!("no other call gives tickets"),
+    }
+}

@@ -1,0 +1,141 @@
+//! A table of calls by answers, with the cells that document 01 allows.
+//!
+//! Written from document 01 alone.
+
+use crate::answer::{Answer, Answered};
+use crate::model::{phase, About, Name, CALLS};
+use crate::script::Made;
+use std::collections::{BTreeMap, BTreeSet};
+use std::fmt;
+
+/// A column of the table. Checking a stamp answers yes or no, which are
+/// counted in columns of their own.
+#[derive(Clone, Copy, PartialEq, Eq, PartialOrd, Ord)]
+enum Column {
+    Done,
+    Yes,
+    No,
+    Other(u64),
+}
+
+impl fmt::Display for Column {
+    fn fmt(&self, to: &mut fmt::Formatter) -> fmt::Result {
+        match self {
+            Column::Done => to.pad(&Answer::Done.number().to_string()),
+            Column::Yes => to.pad("yes"),
+            Column::No => to.pad("no"),
+            Column::Other(number) => to.pad(&number.to_string()),
+        }
+    }
+}
+
+fn column_of(answer: Answer) -> Column {
+    match answer {
+        Answer::Done => Column::Done,
+        other => Column::Other(other.number()),
+    }
+}
+
+/// The column in which an answer is counted.
+fn counted(name: Name, answered: &Answered) -> Column {
+    match (name, answered.answer) {
+        (Name::Check, Answer::Done) if answered.values == [1] => Column::Yes,
+        (Name::Check, Answer::Done) => Column::No,
+        (_, answer) => column_of(answer),
+    }
+}
+
+/// The columns that document 01 allows a call.
+fn allowed(about: &About) -> BTreeSet<Column> {
+    let mut columns: BTreeSet<Column> = about.answers().into_iter().map(column_of).collect();
+    if about.name == Name::Check {
+        columns.remove(&Column::Done);
+        columns.extend([Column::Yes, Column::No]);
+    }
+    columns
+}
+
+fn columns() -> BTreeSet<Column> {
+    CALLS.iter().flat_map(allowed).collect()
+}
+
+/// Calls by answers, and calls on a whole record by its phase.
+pub struct Tally {
+    cells: BTreeMap<(Name, Column), u64>,
+    phases: [u64; phase::COUNT as usize],
+}
+
+impl Tally {
+    pub fn new() -> Tally {
+        Tally { cells: BTreeMap::new(), phases: [0; phase::COUNT as usize] }
+    }
+
+    pub fn count(&mut self, made: &Made) {
+        *self.cells.entry((made.name, counted(made.name, &made.answered))).or_insert(0) += 1;
+        if let Some(phase) = made.phase {
+            self.phases[phase as usize] += 1;
+        }
+    }
+
+    pub fn calls(&self) -> u64 {
+        self.cells.values().sum()
+    }
+
+    fn at(&self, name: Name, column: Column) -> u64 {
+        self.cells.get(&(name, column)).copied().unwrap_or(0)
+    }
+
+    /// The allowed cells that are empty, and the filled ones not allowed.
+    pub fn faults(&self) -> (Vec<String>, Vec<String>) {
+        let (mut empty, mut strange) = (Vec::new(), Vec::new());
+        for about in &CALLS {
+            let allowed = allowed(about);
+            for column in columns() {
+                let filled = self.at(about.name, column) > 0;
+                let cell = format!("{} {}", about.word, column);
+                match (allowed.contains(&column), filled) {
+                    (true, false) => empty.push(cell),
+                    (false, true) => strange.push(cell),
+                    _ => {}
+                }
+            }
+        }
+        (empty, strange)
+    }
+
+    fn row(&self, about: &About) -> String {
+        let allowed = allowed(about);
+        let cell = |column| match self.at(about.name, column) {
+            0 if !allowed.contains(&column) => format!("{:>7}", "-"),
+            count => format!("{:>7}", count),
+        };
+        let cells: Vec<String> = columns().into_iter().map(cell).collect();
+        format!("{:<17}{}\n", about.word, cells.concat())
+    }
+
+    pub fn text(&self) -> String {
+        let heads: Vec<String> = columns().iter().map(|column| format!("{:>7}", column)).collect();
+        let rows: Vec<String> = CALLS.iter().map(|about| self.row(about)).collect();
+        let phases: Vec<String> = self.phases.iter().map(|count| count.to_string()).collect();
+        let (empty, strange) = self.faults();
+        format!(
+            "{:<17}{}\n{}calls in phases 0 to {}: {}\nallowed and empty: {}\n\
+             filled and not allowed: {}\n",
+            "call",
+            heads.concat(),
+            rows.concat(),
+            phase::RECOVERED,
+            phases.join(", "),
+            listed(&empty),
+            listed(&strange)
+        )
+    }
+}
+
+fn listed(cells: &[String]) -> String {
+    if cells.is_empty() {
+        "none".to_string()
+    } else {
+        cells.join(", ")
+    }
+}
