@@ -16,7 +16,8 @@ pub fn commit(r: Record, accepted: &mut [u8], candidate: &mut [u8]) -> Stepped
         ≡ leavesOf r (commit (now (accepted .entry)) (now (candidate .entry))) ⌝ }
 {
     let found = Findings::of(areas::is_sized(accepted.len()) & areas::is_sized(candidate.len()));
-    moves::exchange(step_ends::commit(r, found), accepted, candidate)
+    let stepped = step_ends::commit(r, found);
+    moves::exchange(stepped, accepted, candidate)
 }
 
 // The snapshot in the exchange area becomes the accepted payload.
@@ -25,7 +26,8 @@ pub fn recover(r: Record, accepted: &mut [u8], exchange: &mut [u8], length: usiz
         ≡ leavesOf r (recover (now (accepted .entry)) (now (exchange .entry)) length) ⌝ }
 {
     let found = Findings::of(areas::is_sized(accepted.len()) & areas::is_sized(exchange.len()));
-    moves::exchange(step_ends::recover(r, found, length), accepted, exchange)
+    let stepped = step_ends::recover(r, found, length);
+    moves::exchange(stepped, accepted, exchange)
 }
 
 // The retained recovery payload becomes the accepted one, and stays; what was accepted is handed back in the exchange area.
@@ -38,8 +40,13 @@ pub fn recover_retained(
     ensures { λ s. ⌜ leaves (tells s) (now (accepted .exit) ∷ now (recovery .exit) ∷ now (exchange .exit) ∷ [])
         ≡ leavesOf r (recoverRetained (now (accepted .entry)) (now (recovery .entry)) (now (exchange .entry))) ⌝ }
 {
-    let found = Findings::of(areas::is_sized(accepted.len()) & areas::is_sized(recovery.len()) & areas::is_sized(exchange.len()));
-    moves::replace(step_ends::recover_retained(r, found), accepted, recovery, exchange)
+    let found = Findings::of(
+        areas::is_sized(accepted.len())
+            & areas::is_sized(recovery.len())
+            & areas::is_sized(exchange.len()),
+    );
+    let stepped = step_ends::recover_retained(r, found);
+    moves::replace(stepped, accepted, recovery, exchange)
 }
 
 // The snapshot in the exchange area replaces the accepted payload; no revision is made.
@@ -48,5 +55,6 @@ pub fn refresh(r: Record, accepted: &mut [u8], exchange: &mut [u8], length: usiz
         ≡ leavesOf r (refresh (now (accepted .entry)) (now (exchange .entry)) length) ⌝ }
 {
     let found = Findings::of(areas::is_sized(accepted.len()) & areas::is_sized(exchange.len()));
-    moves::exchange(step_ends::refresh(r, found, length), accepted, exchange)
+    let stepped = step_ends::refresh(r, found, length);
+    moves::exchange(stepped, accepted, exchange)
 }
