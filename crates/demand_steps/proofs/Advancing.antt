@@ -10,8 +10,8 @@ use Rattle.record.specs.declared.Record.{Record}
 use Rattle.step_reports.specs.Done.{advanced}
 use Rattle.step_reports.specs.Reports.{storing}
 use Rattle.step_ends.specs.Ending.{idleAt}
-use Rattle.demand_steps.proofs.Leaf.{Apart}
-use Rattle.demand_steps.proofs.Facts.{Lengths, Whole, byCase}
+use Rattle.demand_steps.proofs.Leaf.{Apart, Left}
+use Rattle.demand_steps.proofs.Facts.{Whole, byCase}
 use Rattle.demand_steps.proofs.Facts.Stage.{flat}
 use Rattle.demand_steps.proofs.Facts.Calm.{off}
 use Rattle.demand_steps.proofs.Testing.{ranges}
@@ -20,21 +20,20 @@ use Rattle.demand_steps.proofs.Moves.{goes-up, goes-down, inAlong, up, 
 use Rattle.demand_steps.proofs.Calming.{busy}
 
 -- a structure report that is taken
-pub advances : {r : Record} {new old : ℕ} → Whole r → Apart (r .phase .number) → new ≤ areaSize → old ≤ areaSize → Whole (advanced (spent (storing new old r)))
-advances {r} {new} {old} w y i j =
+pub advances : {r : Record} {new old : ℕ} → Whole r → Apart (r .phase .number) → Left r (r .accepted) new old → Whole (advanced (spent (storing new old r)))
+advances {r} {new} {old} w y f =
     let q : Record = spent (storing new old r) in
     let s : hasSuccessor (r .phase .number) ≡ true = successor-test _ (ranges (w .stage) .bound) y in
-    let l : Lengths (r .accepted) new old = record { accepted = w .lengths .accepted; candidate = i; recovery = j } in
     byCase 6 (r .phase .number)
     (λ (h : 6 < r .phase .number). rw (goes-down q s h) record {
-      lengths = l;
+      lengths = f (w .lengths);
       size = w .size;
       stage = down (inAlong (w .stage) y) h;
       ticket = tt;
       calm = busy (w .calm) (λ z n i. y .not0 z);
     })
     (λ (h : r .phase .number ≤ 6). rw (goes-up q s h) record {
-      lengths = l;
+      lengths = f (w .lengths);
       size = w .size;
       stage = up (inAlong (w .stage) y) h (w .size .order);
       ticket = tt;

@@ -1,95 +1,44 @@
--- Every call on a whole record falls into one of the cases of `Leaf`. Assumes nothing.
+-- Every call falls into one of the cases of `Leaf`. Assumes nothing.
 use Prim.Native.Nat.{ℕ, _≤_}
 use mathlib.Core.Path.{_≡_, refl}
 use mathlib.Core.Bool.{Bool, true, false}
-use mathlib.Core.List.{[]}
+use mathlib.Core.List.{List, []}
 use lib.Dec.{eqb}
 use borrow.Author.Tests.{eqb-true, ltb-false, leb-true, leb-false, not-false}
-use Rattle.choice.specs.Pick.{pick, _and_, _or_}
-use Rattle.choice.proofs.Tests.{either, neither, test, eqb-ne, tests}
-use Rattle.phases.specs.Phases.{none, remove}
+use Rattle.choice.specs.Pick.{pick, _or_}
+use Rattle.choice.proofs.Picks.{picked, each}
+use Rattle.choice.proofs.Tests.{either, neither, eqb-ne, tests}
 use Rattle.areas.specs.Areas.{long, areaSize}
-use Rattle.record.specs.Classes.{refused}
-use Rattle.record.specs.Answers.{Told}
-use Rattle.record.specs.Fields.{spent}
-use Rattle.record.specs.Live.{isLive}
-use Rattle.record.specs.Live as Tickets
+use Rattle.record.specs.Answers.{Told, says, refuse}
+use Rattle.record.specs.Given.{effectOf}
+use Rattle.record.specs.Fields.{spent, adopting}
 use Rattle.record.specs.declared.Record.{Record}
 use Rattle.record.specs.declared.Outcome.{Outcome}
 use Rattle.record.specs.declared.Outcome.the-variants as O
-use Rattle.record.specs.declared.Refusal.the-variants.{Damaged}
-use Rattle.record.proofs.Saying.{refused-number}
-use Rattle.wholeness.specs.Whole.{whole}
-use Rattle.step_begins.specs.Beginning.{firstPhase, beginOwn, editOwn}
+use Rattle.record.specs.declared.Answer.the-variants.{Finished}
+use Rattle.record.specs.declared.Refusal.{Refusal}
+use Rattle.wholeness.specs.Gates.{Bar, barring, longSnapshot}
+use Rattle.wholeness.proofs.Passing.{Clear}
+use Rattle.step_begins.specs.Beginning.{beginBars, beginOwn, editBars, editOwn}
 use Rattle.step_asks.specs.Asks.{askStructureOwn, askUpdateOwn, askRollbackOwn}
-use Rattle.step_reports.specs.Done.{structureDone, updateDone, rollbackDone}
-use Rattle.step_reports.specs.Reports.{reported, storing, reportStructureOwn}
-use Rattle.step_ends.specs.Ending.{commitOwn, recoverOwn, recoverRetainedOwn, refreshOwn}
-use Rattle.calls.specs.Calls.{Call, step}
+use Rattle.step_reports.specs.Done.{structureDone, updateDone, leaving, rollbackDone}
+use Rattle.step_reports.specs.Reports.{reported, storing, reportStructureBars, reportStructureOwn, reportUpdateBars, reportUpdateOwn, reportRollbackBars, reportRollbackOwn}
+use Rattle.step_ends.specs.Ending.{commitBars, commitOwn, recoverBars, recoverOwn, recoverRetainedOwn, refreshBars, refreshOwn}
+use Rattle.calls.specs.Calls.{Report, Call, stepWith, step}
 use Rattle.calls.specs.Calls.Work.{structure, update, rollback}
 use Rattle.calls.specs.Calls.Report.{structured, updated, rolledBack}
 use Rattle.calls.specs.Calls.Call.{begin, ask, report, edit, commit, recover, recoverRetained, refresh, stamp, check}
 use Rattle.demand_steps.specs.Watching.{sees}
 use Rattle.demand_steps.specs.Watching as Watching
-use Rattle.demand_steps.proofs.Own.{own, whole-step, damaged-step}
-use Rattle.demand_steps.proofs.Unseen.{Unseen, tell, unseen}
-use Rattle.demand_steps.proofs.Leaf.{Apart, Updates, Leaf}
-use Rattle.demand_steps.proofs.Leaf.Leaf.{kept, began, beganStructural, structureAsked, updateEnded, updateAsked, rollbackEnded, turnedEmpty, turnedAsked, waited, waitedStoring, went, updateLast, updateMore, undoLast, undoMore, edited, committed, recovered, restored, refreshed}
-
--- one test
-split : {r : Record} {c : Call} {x y : Told} (b : Bool) → (b ≡ true → Leaf r c x) → (b ≡ false → Leaf r c y) → Leaf r c (pick b x y)
-unfolding pick
-split true f g = f refl
-split false f g = g refl
+use Rattle.demand_steps.proofs.Own.{own, row, answers}
+use Rattle.demand_steps.proofs.Unseen.{Unseen, unseen}
+use Rattle.demand_steps.proofs.Leaf.{Apart, Updates, Goes, Left, Leaf}
+use Rattle.demand_steps.proofs.Leaf.Goes.{last, more}
+use Rattle.demand_steps.proofs.Leaf.Leaf.{kept, began, structureAsked, updateEnded, updateAsked, rollbackEnded, turnedEmpty, turnedAsked, waited, went, updateTaken, undoTaken, committed, recovered, restored}
 
 short : (n : ℕ) → long n ≡ false → n ≤ areaSize
 unfolding long
 short n h = omega tests
-
-finished-took : eqb 24 23 or eqb 24 24 ≡ true
-unfolding _or_
-finished-took = refl
-
-more-took : eqb 23 23 or eqb 23 24 ≡ true
-unfolding _or_
-more-took = refl
-
-module _ {r : Record} where
-  refuses : {c : Call} {n : ℕ} → refused n ≡ true → Leaf r c (tell n [] r)
-  refuses {c} h = kept (unseen c _ _ h)
-
-pub first : firstPhase false ≡ none
-unfolding firstPhase pick
-first = refl
-
-pub first-structural : firstPhase true ≡ remove
-unfolding firstPhase pick
-first-structural = refl
-
-finished-unseen : Unseen (ask structure) 24 []
-unfolding sees pick
-finished-unseen w = refl
-
--- a report whose ticket is the live one: Waiting, Failed, or what Done does
-module _ {r : Record} (t : ℕ) where
-  structure-reported : (x : Outcome) (c o : ℕ) → isLive Tickets.structure t (r .live) ≡ true → c ≤ areaSize → o ≤ areaSize →
-      Leaf r (report (structured c o) t x) (reported x (spent (storing c o r)) (structureDone (spent (storing c o r))))
-  unfolding reported structureDone sees Watching.reported
-  structure-reported O.Waiting c o e p q = waitedStoring (λ w. refl) p q
-  structure-reported (O.Failed code) c o e p q = waitedStoring (λ w. refl) p q
-  structure-reported O.Done c o e p q = split _ (λ h. went finished-took e p q) (λ h. went more-took e p q)
-
-  update-reported : (x : Outcome) → isLive Tickets.update t (r .live) ≡ true → Leaf r (report updated t x) (reported x (spent r) (updateDone (spent r)))
-  unfolding reported updateDone sees Watching.reported
-  update-reported O.Waiting e = waited (λ w. refl)
-  update-reported (O.Failed code) e = waited (λ w. refl)
-  update-reported O.Done e = split _ (λ h. updateLast e (eqb-true _ _ h)) (λ h. updateMore e (eqb-ne _ _ h))
-
-  rollback-reported : (x : Outcome) → isLive Tickets.rollback t (r .live) ≡ true → Leaf r (report rolledBack t x) (reported x (spent r) (rollbackDone (spent r)))
-  unfolding reported rollbackDone sees Watching.reported
-  rollback-reported O.Waiting e = waited (λ w. refl)
-  rollback-reported (O.Failed code) e = waited (λ w. refl)
-  rollback-reported O.Done e = split _ (λ h. undoLast e (eqb-true _ _ h)) (λ h. undoMore e (eqb-ne _ _ h))
 
 -- which tests must fail for a call to be performed, as facts
 open-tests : (p : ℕ) → eqb p 0 or eqb p 5 or eqb p 8 ≡ false → eqb p 7 or eqb p 13 ≡ false → Apart p
@@ -99,43 +48,68 @@ open-tests p e d =
     let z = neither d in
     record { not0 = eqb-ne _ _ (y .0); not5 = eqb-ne _ _ (y .1); not7 = eqb-ne _ _ (z .0); not8 = eqb-ne _ _ (x .1); not13 = eqb-ne _ _ (z .1) }
 
-updates-of : (p : ℕ) → eqb p 0 or eqb p 5 ≡ true → Updates p
+pub updates-of : (p : ℕ) → eqb p 0 or eqb p 5 ≡ true → Updates p
 updates-of p e = either e (λ h. Updates.flat (eqb-true _ _ h)) (λ h. Updates.batch (eqb-true _ _ h))
 
-classify : (r : Record) (c : Call) → Leaf r c (own r c)
-unfolding own beginOwn editOwn askStructureOwn askUpdateOwn askRollbackOwn reportStructureOwn commitOwn recoverOwn recoverRetainedOwn refreshOwn structureDone updateDone rollbackDone sees _and_
-classify r (begin false c o n) =
-    split _ (λ e. refuses refl) (λ e₁. split _ (λ e. refuses refl) (λ e₂. split _ (λ e. refuses refl) (λ e₃. split _ (λ e. refuses refl) (λ e₄.
-    let s = neither e₃ in
-    began first e₁ (eqb-ne _ _ e₂) (short _ (s .0)) (short _ (s .1)) (ltb-false _ _ e₄)))))
-classify r (begin true c o n) =
-    split _ (λ e. refuses refl) (λ e₁. split _ (λ e. refuses refl) (λ e₂. split _ (λ e. refuses refl) (λ e₃. split _ (λ e. refuses refl) (λ e₄.
-    let s = neither e₃ in
-    beganStructural first-structural e₁ (eqb-ne _ _ e₂) (short _ (s .0)) (short _ (s .1)) (ltb-false _ _ e₄)))))
-classify r (ask structure) =
-    split _ (λ e. refuses refl) (λ e₁. split _ (λ e. kept finished-unseen) (λ e₂. split _ (λ e. refuses refl) (λ e₃. structureAsked (open-tests _ e₁ e₂))))
-classify r (ask update) =
-    split _ (λ e. refuses refl) (λ e₁.
-    let s = neither e₁ in
-    let u = updates-of (r .phase .number) (not-false _ (s .0)) in
-    split _ (λ e. updateEnded u (s .1) (eqb-true _ _ e)) (λ e₂. split _ (λ e. refuses refl) (λ e₃. updateAsked u (s .1) (eqb-ne _ _ e₂))))
-classify r (ask rollback) =
-    split _ (λ e. rollbackEnded (leb-true _ _ e)) (λ e₁. split _ (λ e. refuses refl) (λ e₂.
-    split _ (λ e. turnedEmpty (leb-false _ _ e₁) (eqb-true _ _ e)) (λ e₃. turnedAsked (leb-false _ _ e₁) (eqb-ne _ _ e₃))))
-classify r (report (structured c o) t x) =
-    split _ (λ e. split _ (λ d. refuses refl) (λ d. let s = neither d in structure-reported t x c o e (short _ (s .0)) (short _ (s .1)))) (λ e. refuses refl)
-classify r (report updated t x) = split _ (λ e. update-reported t x e) (λ e. refuses refl)
-classify r (report rolledBack t x) = split _ (λ e. rollback-reported t x e) (λ e. refuses refl)
-classify r (edit c o) =
-    split _ (λ e. refuses refl) (λ e₁. split _ (λ e. refuses refl) (λ e₂. let s = neither e₂ in edited (short _ (s .0)) (short _ (s .1))))
-classify r commit = split _ (λ e. refuses refl) (λ e₁. split _ (λ e. refuses refl) (λ e₂. committed (not-false _ e₁)))
-classify r (recover n) =
-    split _ (λ e. refuses refl) (λ e₁. split _ (λ e. refuses refl) (λ e₂. split _ (λ e. refuses refl) (λ e₃. recovered (short _ e₃))))
-classify r recoverRetained = split _ (λ e. refuses refl) (λ e₁. split _ (λ e. refuses refl) (λ e₂. restored))
-classify r (refresh n) = split _ (λ e. refuses refl) (λ e₁. split _ (λ e. refuses refl) (λ e₂. refreshed (short _ e₂)))
-classify r (stamp domain) = split _ (λ e. refuses refl) (λ e. kept (λ w. refl))
-classify r (check domain d v) = split _ (λ e. kept (λ w. refl)) (λ e. kept (λ w. refl))
+-- an asking for structure that is answered Finished
+finished-unseen : Unseen (ask structure) (says Finished)
+unfolding sees pick
+finished-unseen w = refl
 
--- and so does every call on any record: one that is not whole is refused
-pub leaf : (r : Record) (c : Call) → Leaf r c (step r c)
-leaf r c = test (whole r) (λ h. rw (whole-step r c h) (classify r c)) (λ h. rw (damaged-step r c h) (kept (unseen c _ _ (refused-number Damaged))))
+module _ (r : Record) where
+  stores : (c o : ℕ) → long c or long o ≡ false → Left r (r .accepted) c o
+  stores c o h l = let s = neither h in record { accepted = l .accepted; candidate = short c (s .0); recovery = short o (s .1) }
+
+  refuses : {c : Call} (why : Refusal) → Leaf r c (refuse why r)
+  refuses {c} why = kept (unseen c why) (λ l. l)
+
+  barred : {c : Call} (bs : List Bar) {done : Told} → (Clear bs → Leaf r c done) → Leaf r c (barring bs r done)
+  barred {c} = row (Leaf r c) r refuses
+
+  split : {c : Call} {x y : Told} (b : Bool) → (b ≡ true → Leaf r c x) → (b ≡ false → Leaf r c y) → Leaf r c (pick b x y)
+  split {c} = picked (Leaf r c)
+
+  -- a report by its outcome: Waiting and Failed, or what Done does
+  outcomes : {of : Report} {t n o : ℕ} {done : Told} → Left r (r .accepted) n o → Leaf r (report of t O.Done) done → (x : Outcome) →
+      Leaf r (report of t x) (reported (effectOf x) (spent (storing n o r)) done)
+  unfolding reported sees Watching.reported pick
+  outcomes f l O.Waiting = waited (λ w. refl) f
+  outcomes f l (O.Failed code) = waited (λ w. refl) f
+  outcomes f l O.Done = l
+
+  classify : (c : Call) → Leaf r c (own r c)
+  unfolding own beginOwn editOwn askStructureOwn askUpdateOwn askRollbackOwn reportStructureOwn reportUpdateOwn reportRollbackOwn commitOwn recoverOwn recoverRetainedOwn refreshOwn structureDone updateDone rollbackDone adopting leaving sees
+  classify (begin structural b) = barred (beginBars r b) (λ x. began (x .0) (eqb-ne _ _ (x .1 .0)) (stores _ _ (x .1 .1 .0)) (ltb-false _ _ (x .1 .1 .1 .0)))
+  classify (ask structure) =
+      split _ (λ e. refuses _) (λ e₁. split _ (λ e. kept finished-unseen (λ l. l)) (λ e₂. split _ (λ e. refuses _) (λ e₃. structureAsked (open-tests _ e₁ e₂))))
+  classify (ask update) =
+      split _ (λ e. refuses _) (λ e₁.
+      let s = neither e₁ in
+      let u = updates-of (r .phase .number) (not-false _ (s .0)) in
+      split _ (λ e. updateEnded u (s .1) (eqb-true _ _ e)) (λ e₂. split _ (λ e. refuses _) (λ e₃. updateAsked u (s .1) (eqb-ne _ _ e₂))))
+  classify (ask rollback) =
+      split _ (λ e. rollbackEnded (leb-true _ _ e)) (λ e₁. split _ (λ e. refuses _) (λ e₂.
+      split _ (λ e. turnedEmpty (leb-false _ _ e₁) (eqb-true _ _ e)) (λ e₃. turnedAsked (leb-false _ _ e₁) (eqb-ne _ _ e₃))))
+  classify (report (structured c o) t x) =
+      barred (reportStructureBars r t c o) (λ y. let f = stores c o (y .1 .0) in let l = not-false _ (y .0) in outcomes f (each (Leaf r _) _ (went refl l f) (went refl l f)) x)
+  classify (report updated t x) =
+      barred (reportUpdateBars r t) (λ y. let l = not-false _ (y .0) in
+      outcomes (λ k. k) (split _ (λ h. updateTaken refl l (last (eqb-true _ _ h))) (λ h. updateTaken refl l (more (eqb-ne _ _ h)))) x)
+  classify (report rolledBack t x) =
+      barred (reportRollbackBars r t) (λ y. let l = not-false _ (y .0) in
+      outcomes (λ k. k) (split _ (λ h. undoTaken refl l (last (eqb-true _ _ h))) (λ h. undoTaken refl l (more (eqb-ne _ _ h)))) x)
+  classify (edit c o) = barred (editBars r c o) (λ x. kept (λ w. refl) (stores c o (x .1 .0)))
+  classify commit = barred (commitBars r) (λ x. committed (not-false _ (x .0)))
+  classify (recover n) = barred (recoverBars r (longSnapshot n [])) (λ x. recovered (short n (x .1 .1 .0)))
+  classify recoverRetained = barred (recoverBars r []) (λ x. restored)
+  classify (refresh n) =
+      barred (refreshBars r n) (λ x. kept (λ w. refl) (λ l. record { accepted = short n (x .1 .0); candidate = l .candidate; recovery = l .recovery }))
+  classify (stamp domain) = split _ (λ e. refuses _) (λ e. kept (λ w. refl) (λ l. l))
+  classify (check domain s) = split _ (λ e. kept (λ w. refl) (λ l. l)) (λ e. kept (λ w. refl) (λ l. l))
+
+  -- on any record, whatever it is lent: one that is not whole is refused
+  pub lent-leaf : (sized sound : Bool) (c : Call) → Leaf r c (stepWith sized sound r c)
+  lent-leaf sized sound c = answers (Leaf r c) r refuses sized sound c (classify c)
+
+  pub leaf : (c : Call) → Leaf r c (step r c)
+  leaf c = lent-leaf true true c

@@ -7,13 +7,12 @@ use lib.Dec.{ltb}
 use native.Mathlib.Omega.{arith}
 use borrow.Author.Tests.{ltb-true, ltb-false}
 use Rattle.choice.proofs.Tests as T
-use Rattle.areas.specs.Areas.{areaSize}
 use Rattle.record.specs.Fields.{top}
 use Rattle.record.specs.declared.Record.{Record}
 use Rattle.record.specs.declared.Live.{Live}
 use Rattle.record.specs.declared.Live.the-variants.{None, Structure, Update, Rollback}
 use Rattle.wholeness.proofs.Facts.{Counts}
-use Rattle.demand_steps.proofs.Leaf.{Apart, Updates}
+use Rattle.demand_steps.proofs.Leaf.{Apart, Updates, Lengths}
 
 -- a Bool as a number, so that omega sees that it is not both
 abbrev pub bit : Bool → ℕ
@@ -42,11 +41,6 @@ pub ruleset tests = (T.tests, bit-true, bit-false, true-bit, false-bit)
 -- x < y or y ≤ x, to split on
 pub byCase : (x y : ℕ) {P : Type 0} → (x < y → P) → (y ≤ x → P) → P
 byCase x y f g = T.test (ltb x y) (λ e. f (ltb-true x y e)) (λ e. g (ltb-false x y e))
-
-pub record Lengths (a c o : ℕ) : Type 0 where
-  pub accepted : a ≤ areaSize
-  pub candidate : c ≤ areaSize
-  pub recovery : o ≤ areaSize
 
 -- forward and back, by ranges of phases, and the rules on restoring
 pub record Ahead (p f : ℕ) : Type 0 where

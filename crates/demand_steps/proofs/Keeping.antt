@@ -1,32 +1,25 @@
 -- What a report, and going on to the next phase, leave alone. Assumes nothing.
 use Prim.Native.Nat.{ℕ}
 use mathlib.Core.Path.{_≡_, refl}
-use mathlib.Core.Bool.{Bool, true, false}
 use mathlib.Core.List.{List}
-use Rattle.choice.specs.Pick.{pick}
+use Rattle.choice.proofs.Picks.{each}
 use Rattle.phases.specs.declared.Next.{Next}
 use Rattle.phases.specs.declared.Next.the-variants.{To, Nowhere}
 use Rattle.record.specs.Answers.{Said}
+use Rattle.record.specs.Given.{Effect}
+use Rattle.record.specs.Given.Effect.{rests, works}
 use Rattle.record.specs.Fields.{withPlace}
 use Rattle.record.specs.declared.Record.{Record}
-use Rattle.record.specs.declared.Outcome.{Outcome}
-use Rattle.record.specs.declared.Outcome.the-variants as O
 use Rattle.step_reports.specs.Done.{onward}
+use Rattle.calls.specs.Calls.{Report}
 use Rattle.demand_steps.specs.Watching.{Item, Watch, lists, reported}
 
 -- of the watcher, a report that is seen changes the two lists alone
-module _ {A : Type 0} (f : Watch → A) (same : (d u : List Item) (w : Watch) → f (lists d u w) ≡ f w) where
-  picked : (b v : Bool) (d u d' u' : List Item) (w : Watch) → f (pick b (pick v (lists d u w) (lists d' u' w)) w) ≡ f w
-  unfolding pick
-  picked true true d u d' u' w = same d u w
-  picked true false d u d' u' w = same d' u' w
-  picked false v d u d' u' w = refl
-
-  pub report-keeps : (k : Item → Bool) (t : ℕ) (x : Outcome) (a : Said) (w : Watch) → f (reported k t x a w) ≡ f w
-  unfolding reported
-  report-keeps k t O.Waiting a w = refl
-  report-keeps k t (O.Failed code) a w = refl
-  report-keeps k t O.Done a w = picked _ (w .turned) _ _ _ _ w
+pub report-keeps : {A : Type 0} (f : Watch → A) → ((d u : List Item) (w : Watch) → f (lists d u w) ≡ f w) → (of : Report) (t : ℕ) (x : Effect) (a : Said) (w : Watch) →
+    f (reported of t x a w) ≡ f w
+unfolding reported
+report-keeps f same of t (rests answer) a w = refl
+report-keeps f same of t works a w = let P : Watch → Type 0 = λ y. f y ≡ f w in each P _ (each P _ (same _ _ w) (same _ _ w)) refl
 
 -- of the record, going on changes the place alone
 pub onward-keeps : {A : Type 0} (f : Record → A) → ((p a b : ℕ) (r : Record) → f (withPlace p a b r) ≡ f r) → (next : Next) (r : Record) → f (onward next r) ≡ f r

@@ -1,33 +1,36 @@
 -- What a call on a whole record does, by cases: the one place where the tests of the steps are split. Assumes nothing.
 use Prim.Native.Nat.{ℕ, _+_, _-_, _≤_, _<_}
 use mathlib.Core.Path.{_≡_}
-use mathlib.Core.Bool.{true, false}
-use mathlib.Core.List.{List, []}
+use mathlib.Core.Bool.{Bool, true, false}
+use mathlib.Core.List.{[]}
 use mathlib.Core.Logic.{_≢_}
 use lib.Dec.{eqb}
-use Rattle.choice.specs.Pick.{_or_}
-use Rattle.phases.specs.Phases.{none, remove, undo, recoverRemove}
+use Rattle.choice.specs.Pick.{pick}
+use Rattle.phases.specs.Phases.{updates, adopt, undo, recoverRemove}
 use Rattle.areas.specs.Areas.{areaSize}
 use Rattle.batch.specs.Batch.{limit}
-use Rattle.record.specs.Answers.{Told, answer}
+use Rattle.record.specs.Classes.{StepAnswer, takes}
+use Rattle.record.specs.Classes.Class.{stepping}
+use Rattle.record.specs.Answers.{Told, Said, said, told, answer}
 use Rattle.record.specs.Live.{isLive}
 use Rattle.record.specs.Live as Tickets
-use Rattle.record.specs.Fields.{top, withLengths, spent, adopting}
+use Rattle.record.specs.Fields.{top, withLengths, withPlace, spent, adopting}
 use Rattle.record.specs.declared.Record.{Record}
+use Rattle.record.specs.declared.Beginning.{Beginning}
 use Rattle.record.specs.declared.Live.the-variants.{Structure, Update, Rollback}
 use Rattle.record.specs.declared.Outcome.the-variants as O
-use Rattle.record.specs.declared.Answer.the-variants.{Done, More, Finished}
-use Rattle.record.specs.declared.Was.the-variants.{Nothing, One, Three}
-use Rattle.step_begins.specs.Beginning.{begun}
+use Rattle.record.specs.declared.Answer.the-variants.{Done, Finished}
+use Rattle.record.specs.declared.Was.the-variants.{Nothing, Three}
+use Rattle.step_begins.specs.Beginning.{firstPhase, begun}
 use Rattle.step_asks.specs.Asks.{issue, started, turned}
-use Rattle.step_reports.specs.Done.{advanced, raised, lowered, leaving}
+use Rattle.step_reports.specs.Done.{advanced, raised, lowered}
 use Rattle.step_reports.specs.Reports.{storing}
 use Rattle.step_ends.specs.Ending.{idleAt, recoveredTo}
 use Rattle.calls.specs.Calls.{Call}
 use Rattle.calls.specs.Calls.Work.{structure, update, rollback}
 use Rattle.calls.specs.Calls.Report.{structured, updated, rolledBack}
-use Rattle.calls.specs.Calls.Call.{begin, ask, report, edit, commit, recover, recoverRetained, refresh}
-use Rattle.demand_steps.proofs.Unseen.{Unseen, tell}
+use Rattle.calls.specs.Calls.Call.{begin, ask, report, commit, recover, recoverRetained}
+use Rattle.demand_steps.proofs.Unseen.{Unseen}
 
 -- phases 0, 5 and 8, and 7 and 13, are none of them
 pub record Apart (p : ℕ) : Type 0 where
@@ -41,25 +44,37 @@ pub data Updates (p : ℕ) : Type 0 where
   flat : p ≡ 0 → Updates p
   batch : p ≡ 5 → Updates p
 
+-- the i-th of n is done: after the last phase x becomes y
+pub data Goes (i n x y p : ℕ) : ℕ → Type 0 where
+  last : i ≡ n → Goes i n x y p (pick (eqb p x) y p)
+  more : i ≢ n → Goes i n x y p p
+
+pub record Lengths (a c o : ℕ) : Type 0 where
+  pub accepted : a ≤ areaSize
+  pub candidate : c ≤ areaSize
+  pub recovery : o ≤ areaSize
+
+-- lengths that a call leaves
+abbrev pub Left : Record → ℕ → ℕ → ℕ → Type 0
+Left r a c o = Lengths (r .accepted) (r .candidate) (r .recovery) → Lengths a c o
+
 pub data Leaf (r : Record) : Call → Told → Type 0 where
-  kept : {c : Call} {n : ℕ} {vs : List ℕ} → Unseen c n vs → Leaf r c (tell n vs r)
-  began : {c o n p : ℕ} → p ≡ none → r .staged ≡ false → r .revision ≢ top → c ≤ areaSize → o ≤ areaSize → n ≤ limit → Leaf r (begin false c o n) (answer (Done Nothing) (begun p c o n r))
-  beganStructural : {c o n p : ℕ} → p ≡ remove → r .staged ≡ false → r .revision ≢ top → c ≤ areaSize → o ≤ areaSize → n ≤ limit → Leaf r (begin true c o n) (answer (Done Nothing) (begun p c o n r))
+  kept : {c : Call} {s : Said} {a n o : ℕ} → Unseen c s → Left r a n o → Leaf r c (told s (withLengths a n o r))
+  began : {structural : Bool} {b : Beginning} → r .staged ≡ false → r .revision ≢ top → Left r (r .accepted) (b .candidate) (b .recovery) → b .actions ≤ limit →
+      Leaf r (begin structural b) (answer (Done Nothing) (begun (firstPhase structural) b r))
   structureAsked : Apart (r .phase .number) → Leaf r (ask structure) (issue Structure (r .phase .number) r)
   updateEnded : Updates (r .phase .number) → r .restoring ≡ false → r .applied ≡ r .entries → Leaf r (ask update) (answer Finished (adopting r))
   updateAsked : Updates (r .phase .number) → r .restoring ≡ false → r .applied ≢ r .entries → Leaf r (ask update) (issue Update (r .applied) (started r))
   rollbackEnded : recoverRemove ≤ r .phase .number → Leaf r (ask rollback) (answer Finished r)
   turnedEmpty : r .phase .number < recoverRemove → r .attempted ≡ 0 → Leaf r (ask rollback) (answer Finished (spent (turned recoverRemove r)))
   turnedAsked : r .phase .number < recoverRemove → r .attempted ≢ 0 → Leaf r (ask rollback) (issue Rollback (r .attempted - 1) (turned undo r))
-  waited : {c : Call} {n : ℕ} {vs : List ℕ} → Unseen c n vs → Leaf r c (tell n vs (spent r))
-  waitedStoring : {c : Call} {n : ℕ} {vs : List ℕ} {new old : ℕ} → Unseen c n vs → new ≤ areaSize → old ≤ areaSize → Leaf r c (tell n vs (spent (storing new old r)))
-  went : {t new old n : ℕ} → eqb n 23 or eqb n 24 ≡ true → isLive Tickets.structure t (r .live) ≡ true → new ≤ areaSize → old ≤ areaSize → Leaf r (report (structured new old) t O.Done) (tell n [] (advanced (spent (storing new old r))))
-  updateLast : {t : ℕ} → isLive Tickets.update t (r .live) ≡ true → r .applied + 1 ≡ r .entries → Leaf r (report updated t O.Done) (answer Finished (adopting (raised (spent r))))
-  updateMore : {t : ℕ} → isLive Tickets.update t (r .live) ≡ true → r .applied + 1 ≢ r .entries → Leaf r (report updated t O.Done) (answer More (raised (spent r)))
-  undoLast : {t : ℕ} → isLive Tickets.rollback t (r .live) ≡ true → r .entries - 1 ≡ 0 → Leaf r (report rolledBack t O.Done) (answer Finished (leaving (lowered (spent r))))
-  undoMore : {t : ℕ} → isLive Tickets.rollback t (r .live) ≡ true → r .entries - 1 ≢ 0 → Leaf r (report rolledBack t O.Done) (answer More (lowered (spent r)))
-  edited : {c o : ℕ} → c ≤ areaSize → o ≤ areaSize → Leaf r (edit c o) (answer (Done Nothing) (withLengths (r .accepted) c o r))
+  waited : {c : Call} {s : Said} {n o : ℕ} → Unseen c s → Left r (r .accepted) n o → Leaf r c (told s (spent (storing n o r)))
+  went : {t n o : ℕ} {s : StepAnswer} → takes s ≡ true → isLive Tickets.structure t (r .live) ≡ true → Left r (r .accepted) n o →
+      Leaf r (report (structured n o) t O.Done) (told (said (stepping s) []) (advanced (spent (storing n o r))))
+  updateTaken : {t p : ℕ} {s : StepAnswer} → takes s ≡ true → isLive Tickets.update t (r .live) ≡ true → Goes (r .applied + 1) (r .entries) updates adopt (r .phase .number) p →
+      Leaf r (report updated t O.Done) (told (said (stepping s) []) (withPlace p (r .forward) (r .back) (raised (spent r))))
+  undoTaken : {t p : ℕ} {s : StepAnswer} → takes s ≡ true → isLive Tickets.rollback t (r .live) ≡ true → Goes (r .entries - 1) 0 undo recoverRemove (r .phase .number) p →
+      Leaf r (report rolledBack t O.Done) (told (said (stepping s) []) (withPlace p (r .forward) (r .back) (lowered (spent r))))
   committed : r .staged ≡ true → Leaf r commit (answer (Done (Three (r .accepted) (r .recovery) (r .entries))) (idleAt (r .revision + 1) (r .candidate) r))
   recovered : {n : ℕ} → n ≤ areaSize → Leaf r (recover n) (recoveredTo n r)
   restored : Leaf r recoverRetained (recoveredTo (r .recovery) r)
-  refreshed : {n : ℕ} → n ≤ areaSize → Leaf r (refresh n) (answer (Done (One (r .accepted))) (withLengths n (r .candidate) (r .recovery) r))

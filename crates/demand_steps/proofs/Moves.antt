@@ -11,7 +11,8 @@ use Rattle.phases.specs.Phases.{hasSuccessor, successor}
 use Rattle.record.specs.Fields.{withPlace}
 use Rattle.record.specs.declared.Record.{Record}
 use Rattle.step_reports.specs.Done.{onward, advanced, least}
-use Rattle.demand_steps.proofs.Leaf.{Apart, Updates}
+use Rattle.demand_steps.proofs.Leaf.{Apart, Updates, Goes}
+use Rattle.demand_steps.proofs.Leaf.Goes.{last, more}
 use Rattle.demand_steps.proofs.Facts.{Stage, tests, byCase}
 use Rattle.demand_steps.proofs.Facts.Stage.{flat, flatBack, before, updating, after, undoing, backing}
 
@@ -93,13 +94,11 @@ module _ {p f b n a k : ℕ} {v : Bool} where
   inAlong (undoing x1 x2 x3 x4 x5 x6 x7) u = absurd (omega (tests, u))
 
   -- how a step moves the place
-  pub adopted : {q : ℕ} → Batch p f b → Choice p 5 6 p q → v ≡ false → a ≡ n → Stage q f b n a k v
-  adopted (plain x2 x3 x4) c e h = let z = c .isnt (omega arith) in flat e (omega arith) x3 x4
-  adopted (inside x2 x3 x4) c e h = let z = c .is x2 in after e (omega arith) (omega arith) (omega arith) x4 h
-
-  pub tried : Batch p f b → v ≡ false → a < n → Stage p f b n a k v
-  tried (plain x2 x3 x4) e h = flat e x2 x3 x4
-  tried (inside x2 x3 x4) e h = updating e x2 x3 x4 (omega arith)
+  pub raised : {q : ℕ} → Goes a n 5 6 p q → Batch p f b → v ≡ false → a ≤ n → Stage q f b n a k v
+  raised (last y) (plain x2 x3 x4) e h = let z = choice p 5 6 p .isnt (omega arith) in flat e (omega arith) x3 x4
+  raised (last y) (inside x2 x3 x4) e h = let z = choice p 5 6 p .is x2 in after e (omega arith) (omega arith) (omega arith) x4 y
+  raised (more y) (plain x2 x3 x4) e h = flat e x2 x3 x4
+  raised (more y) (inside x2 x3 x4) e h = updating e x2 x3 x4 (omega arith)
 
   pub turnedNone : {q : ℕ} → Stage p f b n a k v → Turn p 9 q → p < 9 → k ≡ 0 → Stage q f b k a k true
   turnedNone (flat x1 x2 x3 x4) t h e = flatBack refl (t .flat x2) x3 x4 refl
@@ -131,14 +130,11 @@ module _ {p f b n a k : ℕ} {v : Bool} where
   down (close x1 x2 x3 x4 x5) h = absurd (omega arith)
   down (back x1 x2 x3 x4 x5 x6 x7) h = backing x1 (omega arith) (omega arith) x4 (omega arith) x6 x7
 
-module _ {p f b n k : ℕ} {v : Bool} where
-  pub undone : {q m i j : ℕ} → Undo p f b n k → v ≡ true → Choice p 8 9 p q → n ≡ 1 → m ≡ 0 → j ≡ 0 → Stage q f b m i j v
-  undone (plain x2 x3 x4 x5) e c h x x' = let z = c .isnt (omega arith) in flatBack e (omega arith) x3 x4 (omega arith)
-  undone (inside x2 x3 x4 x5 x6) e c h x x' = let z = c .is x2 in backing e (omega arith) (omega arith) x4 (omega arith) x (omega arith)
-
-  pub undoneMore : {m i j : ℕ} → Undo p f b n k → v ≡ true → 0 < m → j ≡ m → Stage p f b m i j v
-  undoneMore (plain x2 x3 x4 x5) e h x = flatBack e x2 x3 x4 x
-  undoneMore (inside x2 x3 x4 x5 x6) e h x = undoing e x2 x3 x4 x5 h x
+pub lowered : {p f b n k q m i j : ℕ} {v : Bool} → Goes m 0 8 9 p q → Undo p f b n k → v ≡ true → j ≡ m → Stage q f b m i j v
+lowered {p} (last y) (plain x2 x3 x4 x5) e x = let z = choice p 8 9 p .isnt (omega arith) in flatBack e (omega arith) x3 x4 x
+lowered {p} (last y) (inside x2 x3 x4 x5 x6) e x = let z = choice p 8 9 p .is x2 in backing e (omega arith) (omega arith) x4 (omega arith) y x
+lowered (more y) (plain x2 x3 x4 x5) e x = flatBack e x2 x3 x4 x
+lowered (more y) (inside x2 x3 x4 x5 x6) e x = undoing e x2 x3 x4 x5 (omega arith) x
 
 pub allTried : {p f b n k : ℕ} → Undo p f b n k → k ≡ n
 allTried (plain x2 x3 x4 x5) = x5

@@ -1,99 +1,106 @@
--- A step on a whole record is the call's own; on any other it is refused as Damaged. Assumes nothing.
-use Prim.Native.Nat.{ℕ}
-use mathlib.Core.Path.{_≡_, refl}
-use mathlib.Core.Bool.{Bool, true, false}
+-- Every call is its own behind a gate: on a whole record it is the call's own, and on any other it is refused as Damaged; and what
+-- holds of refusals and of what a call does where none is given holds of the call. Assumes nothing.
+use mathlib.Core.Path.{_≡_, refl, sym, _∙_, subst}
+use mathlib.Core.Bool.{Bool, true, false, not}
+use mathlib.Core.List.{List, [], _∷_}
 use Rattle.choice.specs.Pick.{pick, _and_}
-use Rattle.record.specs.Answers.{Told, Said, told, refuse}
-use Rattle.record.specs.Live.{isLive}
-use Rattle.record.specs.Live as Tickets
-use Rattle.record.specs.Fields.{spent}
+use Rattle.choice.proofs.Picks.{picked}
+use Rattle.record.specs.Answers.{Told, Said, says, told, refuse}
 use Rattle.record.specs.declared.Record.{Record}
+use Rattle.record.specs.declared.Answer.the-variants.{Refused}
 use Rattle.record.specs.declared.Refusal.{Refusal}
-use Rattle.record.specs.declared.Refusal.the-variants.{Damaged, Stale, Pending}
+use Rattle.record.specs.declared.Refusal.the-variants.{Damaged, Pending}
 use Rattle.wholeness.specs.Whole.{whole}
-use Rattle.wholeness.specs.Gates.{gateOf, gated}
+use Rattle.wholeness.specs.Gates.{gateOf, gated, Bar, barring}
+use Rattle.wholeness.specs.declared.Gate.{Gate}
 use Rattle.wholeness.specs.declared.Gate.the-variants.{Open, Shut}
+use Rattle.wholeness.proofs.Passing.{Clear}
 use Rattle.step_begins.specs.Beginning.{beginOwn, editOwn}
 use Rattle.step_asks.specs.Asks.{askStructureOwn, askUpdateOwn, askRollbackOwn}
-use Rattle.step_reports.specs.Done.{updateDone, rollbackDone}
-use Rattle.step_reports.specs.Reports.{behind, reportGate, reported, reportStructureOwn}
+use Rattle.step_reports.specs.Reports.{reportStructureOwn, reportUpdateOwn, reportRollbackOwn}
 use Rattle.step_ends.specs.Ending.{commitOwn, recoverOwn, recoverRetainedOwn, refreshOwn}
-use Rattle.step_stamps.specs.Stamping.{saysStamping, saysChecked, stampStep, passes, checkStep}
+use Rattle.step_stamps.specs.Stamping.{saysStamping, saysChecked, stampOf, stampStep, passes, checkStep}
 use Rattle.step_stamps.specs.declared.Stamping.the-variants as S
 use Rattle.step_stamps.specs.declared.Checked.the-variants as C
-use Rattle.calls.specs.Calls.{Call, step}
+use Rattle.calls.specs.Calls.{Call, stepWith, step}
 use Rattle.calls.specs.Calls.Work.{structure, update, rollback}
 use Rattle.calls.specs.Calls.Report.{structured, updated, rolledBack}
 use Rattle.calls.specs.Calls.Call.{begin, ask, report, edit, commit, recover, recoverRetained, refresh, stamp, check}
 
--- a report: 10 unless its ticket is the live one of its kind
-abbrev pub live : ℕ → ℕ → Record → Told → Told
-live kind ticket r own = pick (isLive kind ticket (r .live)) own (refuse Stale r)
-
 -- what a call does behind its gate
 unfoldable pub own : Record → Call → Told
-own r (begin structural c o n) = beginOwn structural r c o n
+own r (begin structural b) = beginOwn structural r b
 own r (ask structure) = askStructureOwn r
 own r (ask update) = askUpdateOwn r
 own r (ask rollback) = askRollbackOwn r
-own r (report (structured c o) t x) = live Tickets.structure t r (reportStructureOwn r x c o)
-own r (report updated t x) = live Tickets.update t r (reported x (spent r) (updateDone (spent r)))
-own r (report rolledBack t x) = live Tickets.rollback t r (reported x (spent r) (rollbackDone (spent r)))
+own r (report (structured c o) t x) = reportStructureOwn r t x c o
+own r (report updated t x) = reportUpdateOwn r t x
+own r (report rolledBack t x) = reportRollbackOwn r t x
 own r (edit c o) = editOwn r c o
 own r commit = commitOwn r
 own r (recover n) = recoverOwn r n
 own r recoverRetained = recoverRetainedOwn r
 own r (refresh n) = refreshOwn r n
-own r (stamp domain) =
-    pick (r .staged) (refuse Pending r) (told (saysStamping (S.Taken (record { domain = domain; revision = r .revision }))) r)
-own r (check domain d v) = pick (passes r domain d v) (told (saysChecked C.Passes) r) (told (saysChecked C.Fails) r)
+own r (stamp domain) = pick (r .staged) (refuse Pending r) (told (saysStamping (S.Taken (stampOf domain r))) r)
+own r (check domain s) = pick (passes r domain s) (told (saysChecked C.Passes) r) (told (saysChecked C.Fails) r)
 
--- a gate that is open only on a test
-gated-pick : (b : Bool) (why : Refusal) (r : Record) (own : Told) → gated (pick b Open (Shut why)) r own ≡ pick b own (refuse why r)
-unfolding pick gated
-gated-pick true why r own = refl
-gated-pick false why r own = refl
-
-told-pick : (b : Bool) (r : Record) (x y : Said) → told (pick b x y) r ≡ pick b (told x r) (told y r)
-unfolding pick
-told-pick true r x y = refl
-told-pick false r x y = refl
+-- the gate is that of what the call is lent, and of stamps and checks, which are lent nothing, the gate for 7 alone
+pub data Behind (sized sound : Bool) (r : Record) (c : Call) : Type 0 where
+  lent : stepWith sized sound r c ≡ gated (gateOf sized sound r) r (own r c) → Behind sized sound r c
+  unlent : stepWith sized sound r c ≡ gated (gateOf true true r) r (own r c) → Behind sized sound r c
 
 module _ (r : Record) where
-  report-whole : (kind ticket : ℕ) (x : Told) → whole r ≡ true → gated (reportGate true true r kind ticket) r x ≡ live kind ticket r x
-  unfolding gateOf reportGate behind pick _and_
-  report-whole kind ticket x h = rw h (gated-pick (isLive kind ticket (r .live)) Stale r x)
+  unlent-by : (w b : Bool) (x y : Said) →
+      told (pick (not w) (says (Refused Damaged)) (pick b x y)) r ≡ gated (pick w Open (Shut Damaged)) r (pick b (told x r) (told y r))
+  unfolding pick gated
+  unlent-by true true x y = refl
+  unlent-by true false x y = refl
+  unlent-by false b x y = refl
+
+  pub behind : (sized sound : Bool) (c : Call) → Behind sized sound r c
+  unfolding own gateOf pick _and_ stampStep checkStep
+  behind sized sound (begin structural b) = lent refl
+  behind sized sound (ask structure) = lent refl
+  behind sized sound (ask update) = lent refl
+  behind sized sound (ask rollback) = lent refl
+  behind sized sound (report (structured c o) t x) = lent refl
+  behind sized sound (report updated t x) = lent refl
+  behind sized sound (report rolledBack t x) = lent refl
+  behind sized sound (edit c o) = lent refl
+  behind sized sound commit = lent refl
+  behind sized sound (recover n) = lent refl
+  behind sized sound recoverRetained = lent refl
+  behind sized sound (refresh n) = lent refl
+  behind sized sound (stamp domain) = unlent (unlent-by (whole r) (r .staged) _ _)
+  behind sized sound (check domain s) = unlent (unlent-by (whole r) (passes r domain s) _ _)
+
+  step-is : {c : Call} → Behind true true r c → step r c ≡ gated (gateOf true true r) r (own r c)
+  step-is (lent e) = e
+  step-is (unlent e) = e
 
   pub whole-step : (c : Call) → whole r ≡ true → step r c ≡ own r c
-  unfolding own gateOf gated reportGate behind pick _and_ stampStep checkStep
-  whole-step (begin structural c o n) h = rw h
-  whole-step (ask structure) h = rw h
-  whole-step (ask update) h = rw h
-  whole-step (ask rollback) h = rw h
-  whole-step (report (structured c o) t x) h = report-whole Tickets.structure t _ h
-  whole-step (report updated t x) h = report-whole Tickets.update t _ h
-  whole-step (report rolledBack t x) h = report-whole Tickets.rollback t _ h
-  whole-step (edit c o) h = rw h
-  whole-step commit h = rw h
-  whole-step (recover n) h = rw h
-  whole-step recoverRetained h = rw h
-  whole-step (refresh n) h = rw h
-  whole-step (stamp domain) h = rw h (told-pick (r .staged) r _ _)
-  whole-step (check domain d v) h = rw h (told-pick (passes r domain d v) r _ _)
+  unfolding gateOf gated pick _and_
+  whole-step c h = step-is (behind true true c) ∙ rw h
 
   pub damaged-step : (c : Call) → whole r ≡ false → step r c ≡ refuse Damaged r
-  unfolding gateOf gated reportGate behind pick _and_ stampStep checkStep
-  damaged-step (begin structural c o n) h = rw h
-  damaged-step (ask structure) h = rw h
-  damaged-step (ask update) h = rw h
-  damaged-step (ask rollback) h = rw h
-  damaged-step (report (structured c o) t x) h = rw h
-  damaged-step (report updated t x) h = rw h
-  damaged-step (report rolledBack t x) h = rw h
-  damaged-step (edit c o) h = rw h
-  damaged-step commit h = rw h
-  damaged-step (recover n) h = rw h
-  damaged-step recoverRetained h = rw h
-  damaged-step (refresh n) h = rw h
-  damaged-step (stamp domain) h = rw h
-  damaged-step (check domain d v) h = rw h
+  unfolding gateOf gated pick _and_
+  damaged-step c h = step-is (behind true true c) ∙ rw h
+
+module _ (P : Told → Type 0) (r : Record) (refuses : (why : Refusal) → P (refuse why r)) where
+  -- a call's own refusals in a row, and what is done where none is given
+  pub row : (bs : List Bar) {done : Told} → (Clear bs → P done) → P (barring bs r done)
+  row [] f = f refl
+  row (b ∷ bs) f = picked P (b .test) (λ e. refuses (b .why)) (λ e. row bs (λ x. f (e, x)))
+
+  at-gate : {done : Told} (g : Gate) → P done → P (gated g r done)
+  unfolding gated
+  at-gate Open p = p
+  at-gate (Shut why) p = refuses why
+
+  -- a call, whatever it is lent
+  by-gate : {sized sound : Bool} {c : Call} → Behind sized sound r c → P (own r c) → P (stepWith sized sound r c)
+  by-gate (lent e) p = subst P (sym e) (at-gate _ p)
+  by-gate (unlent e) p = subst P (sym e) (at-gate _ p)
+
+  pub answers : (sized sound : Bool) (c : Call) → P (own r c) → P (stepWith sized sound r c)
+  answers sized sound c = by-gate (behind r sized sound c)

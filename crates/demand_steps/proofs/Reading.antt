@@ -15,8 +15,9 @@ use Rattle.record.specs.declared.Live.{Live}
 use Rattle.record.specs.declared.Live.the-variants.{None, Structure, Update, Rollback}
 use Rattle.wholeness.specs.Whole.{whole, lengthsFit, stagedFits, forwardFits, backFits, restoringFits, liveFits}
 use Rattle.wholeness.proofs.Facts.{Parts, parts, Counts, counts-of}
-use Rattle.demand_steps.proofs.Leaf.{Apart, Updates}
-use Rattle.demand_steps.proofs.Facts.{Lengths, Ahead, Behind, Turned, Stage, Tick, Calm, Whole, tests, byCase}
+use Rattle.demand_steps.proofs.Leaf.{Apart, Updates, Lengths}
+use Rattle.demand_steps.proofs.Classify.{updates-of}
+use Rattle.demand_steps.proofs.Facts.{Ahead, Behind, Turned, Stage, Tick, Calm, Whole, tests, byCase}
 use Rattle.demand_steps.proofs.Facts.Stage.{flat, flatBack, before, updating, after, undoing, backing}
 use Rattle.demand_steps.proofs.Facts.Calm.{on, off}
 
@@ -77,9 +78,6 @@ stage-of {p} {f} {b} {n} {a} {k} {v} m x y z s =
 pub apart-of : (p : ℕ) → hasSuccessor p ≡ true → Apart p
 unfolding hasSuccessor
 apart-of p h = either h (λ i. either i (λ e. omega (tests, both e)) (λ e. omega tests)) (λ e. omega (tests, both e))
-
-updates-of : (p : ℕ) → eqb p 0 or eqb p 5 ≡ true → Updates p
-updates-of p e = either e (λ h. Updates.flat (eqb-true _ _ h)) (λ h. Updates.batch (eqb-true _ _ h))
 
 tick-of : (l : Live) (s : ℕ) (v : Bool) (p n a k : ℕ) → liveFits l s v p n a k ≡ true → Tick l s p n a k v
 unfolding liveFits _or_ _implies_

@@ -1,48 +1,41 @@
 -- Document 01, "Open": "accepted payload copied, all else as after a commit"; and after both recoveries, alike. Assumes nothing.
 use Prim.Native.Nat.{ℕ, _+_}
-use mathlib.Core.Path.{_≡_, refl}
-use Rattle.choice.proofs.Tests.{test, eqb-ne}
-use Rattle.choice.proofs.Picks.{picked}
-use Rattle.record.specs.Answers.{Told, refuse}
+use mathlib.Core.Path.{_≡_, refl, sym, subst}
+use mathlib.Core.Bool.{true}
+use mathlib.Core.List.{List, []}
+use Rattle.choice.proofs.Tests.{never}
+use Rattle.record.specs.Classes.{successful}
+use Rattle.record.specs.Answers.{Told}
+use Rattle.record.specs.Given.{at}
 use Rattle.record.specs.declared.Record.{Record}
-use Rattle.record.specs.declared.Refusal.{Refusal}
-use Rattle.record.specs.declared.Refusal.the-variants.{Damaged, Idle, NotReady, TooLong}
-use Rattle.record.proofs.Saying.{refused-number}
-use Rattle.wholeness.specs.Whole.{whole}
+use Rattle.wholeness.specs.Gates.{Bar, barring, longSnapshot}
 use Rattle.step_begins.specs.Opening.{opening}
-use Rattle.step_ends.specs.Ending.{idleAt, commitOwn, recoverOwn, recoverRetainedOwn}
+use Rattle.step_ends.specs.Ending.{idleAt, commitBars, commitOwn, recoverBars, recoverOwn, recoverRetainedOwn}
 use Rattle.calls.specs.Calls.{Call, step}
 use Rattle.calls.specs.Calls.Call.{commit, recover, recoverRetained}
-use Rattle.demand_steps.proofs.Own.{own, whole-step, damaged-step}
-use Rattle.demand_steps.proofs.Unseen.{quiet}
+use Rattle.demand_steps.proofs.Own.{own, row, answers}
 
 -- the record of a transaction that has ended is that of an opening, at its revision, its serial and its accepted length
-pub after-commit-opens : (v n : ℕ) (r : Record) → idleAt v n r ≡ opening v (r .serial) n
+pub after-commit-opens : (v n : ℕ) (r : Record) → idleAt v n r ≡ opening (at v (r .serial)) n
 unfolding idleAt opening
 after-commit-opens v n r = refl
 
-record Opens (to : Record) (x : Told) : Type 0 where
-  performed : x .number ≡ 0 → x .state ≡ to
-
-module _ {to : Record} where
-  refused : (why : Refusal) (r : Record) → Opens to (refuse why r)
-  refused why r = record { performed = λ e. absurd (eqb-ne _ _ (quiet _ (refused-number why) .done) e) }
-
-  stepped : (r : Record) (c : Call) → Opens to (own r c) → Opens to (step r c)
-  stepped r c o = test (whole r) (λ w. rw (whole-step r c w) o) (λ w. rw (damaged-step r c w) (refused Damaged r))
+abbrev Opens : Record → Told → Type 0
+Opens to x = successful (x .class) ≡ true → x .state ≡ to
 
 module _ (r : Record) where
-  pub commit-opens : step r commit .number ≡ 0 → step r commit .state ≡ opening (r .revision + 1) (r .serial) (r .candidate)
+  ends : {to : Record} (c : Call) (bs : List Bar) (done : Told) → own r c ≡ barring bs r done → done .state ≡ to → Opens to (step r c)
+  ends {to} c bs done e p =
+      answers (Opens to) r (λ why h. never (sym h)) true true c (subst (Opens to) (sym e) (row (Opens to) r (λ why h. never (sym h)) bs (λ x h. p)))
+
+  pub commit-opens : successful (step r commit .class) ≡ true → step r commit .state ≡ opening (at (r .revision + 1) (r .serial)) (r .candidate)
   unfolding own commitOwn
-  commit-opens = stepped r commit (picked (Opens _) _ (λ h. refused Idle r) (λ h.
-      picked (Opens _) _ (λ i. refused NotReady r) (λ i. record { performed = λ e. after-commit-opens _ _ r }))) .performed
+  commit-opens = ends commit (commitBars r) _ refl (after-commit-opens _ _ r)
 
-  pub recover-opens : (n : ℕ) → step r (recover n) .number ≡ 0 → step r (recover n) .state ≡ opening (r .revision) (r .serial) n
+  pub recover-opens : (n : ℕ) → successful (step r (recover n) .class) ≡ true → step r (recover n) .state ≡ opening (at (r .revision) (r .serial)) n
   unfolding own recoverOwn
-  recover-opens n = stepped r (recover n) (picked (Opens _) _ (λ h. refused Idle r) (λ h. picked (Opens _) _ (λ i. refused NotReady r) (λ i.
-      picked (Opens _) _ (λ j. refused TooLong r) (λ j. record { performed = λ e. after-commit-opens _ _ r })))) .performed
+  recover-opens n = ends (recover n) (recoverBars r (longSnapshot n [])) _ refl (after-commit-opens _ _ r)
 
-  pub recover-retained-opens : step r recoverRetained .number ≡ 0 → step r recoverRetained .state ≡ opening (r .revision) (r .serial) (r .recovery)
+  pub recover-retained-opens : successful (step r recoverRetained .class) ≡ true → step r recoverRetained .state ≡ opening (at (r .revision) (r .serial)) (r .recovery)
   unfolding own recoverRetainedOwn
-  recover-retained-opens = stepped r recoverRetained (picked (Opens _) _ (λ h. refused Idle r) (λ h.
-      picked (Opens _) _ (λ i. refused NotReady r) (λ i. record { performed = λ e. after-commit-opens _ _ r }))) .performed
+  recover-retained-opens = ends recoverRetained (recoverBars r []) _ refl (after-commit-opens _ _ r)

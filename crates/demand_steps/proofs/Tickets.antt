@@ -1,10 +1,10 @@
 -- What is known of a whole record whose ticket of a kind is live. Assumes nothing.
-use Prim.Native.Nat.{ℕ}
-use mathlib.Core.Path.{_≡_, refl, ap}
+use Prim.Native.Nat.{ℕ, zero, suc}
+use mathlib.Core.Path.{_≡_, refl, _∙_, ap}
 use mathlib.Core.Bool.{true, false}
 use borrow.Author.Tests.{eqb-true}
-use Rattle.choice.proofs.Tests.{both, tests}
-use Rattle.record.specs.Live.{isLive}
+use Rattle.choice.proofs.Tests.{both}
+use Rattle.record.specs.Live.{workOf, number, isLive}
 use Rattle.record.specs.Live as Tickets
 use Rattle.record.specs.declared.Record.{Record}
 use Rattle.record.specs.declared.Live.{Live}
@@ -14,36 +14,32 @@ use Rattle.demand_steps.proofs.Leaf.{Updates}
 use Rattle.demand_steps.proofs.Facts as Facts
 use Rattle.demand_steps.proofs.Facts.{Whole, Tick, OnStructure, OnUpdate, OnRollback}
 
-pub is-structure : (l : Live) (t : ℕ) → isLive Tickets.structure t l ≡ true → l ≡ Structure t
-unfolding isLive
-is-structure None t e = absurd (omega (tests, both e))
-is-structure (Structure n) t e = ap Structure (eqb-true _ _ (both e .1))
-is-structure (Update n) t e = absurd (omega (tests, both e))
-is-structure (Rollback n) t e = absurd (omega (tests, both e))
+-- the live ticket, from its kind and its number
+abbrev pub liveAt : ℕ → ℕ → Live
+liveAt zero t = None
+liveAt (suc zero) t = Structure t
+liveAt (suc (suc zero)) t = Update t
+liveAt (suc (suc (suc k))) t = Rollback t
 
-pub is-update : (l : Live) (t : ℕ) → isLive Tickets.update t l ≡ true → l ≡ Update t
-unfolding isLive
-is-update None t e = absurd (omega (tests, both e))
-is-update (Structure n) t e = absurd (omega (tests, both e))
-is-update (Update n) t e = ap Update (eqb-true _ _ (both e .1))
-is-update (Rollback n) t e = absurd (omega (tests, both e))
+built : (l : Live) → l ≡ liveAt (workOf l) (number l)
+built None = refl
+built (Structure n) = refl
+built (Update n) = refl
+built (Rollback n) = refl
 
-pub is-rollback : (l : Live) (t : ℕ) → isLive Tickets.rollback t l ≡ true → l ≡ Rollback t
+pub is-live : (k t : ℕ) (l : Live) → isLive k t l ≡ true → l ≡ liveAt k t
 unfolding isLive
-is-rollback None t e = absurd (omega (tests, both e))
-is-rollback (Structure n) t e = absurd (omega (tests, both e))
-is-rollback (Update n) t e = absurd (omega (tests, both e))
-is-rollback (Rollback n) t e = ap Rollback (eqb-true _ _ (both e .1))
+is-live k t l e = let x = both e in built l ∙ ap (λ (n : ℕ). liveAt n (number l)) (eqb-true (workOf l) k (x .0)) ∙ ap (liveAt k) (eqb-true (number l) t (x .1))
 
 module _ {r : Record} (w : Whole r) {t : ℕ} where
   pub onStructure : isLive Tickets.structure t (r .live) ≡ true → OnStructure t (r .serial) (r .phase .number)
-  onStructure e = rw (is-structure (r .live) t e) at (w .ticket)
+  onStructure e = rw (is-live Tickets.structure t (r .live) e) at (w .ticket)
 
   pub onUpdate : isLive Tickets.update t (r .live) ≡ true → OnUpdate t (r .serial) (r .phase .number) (r .applied) (r .attempted) (r .restoring)
-  onUpdate e = rw (is-update (r .live) t e) at (w .ticket)
+  onUpdate e = rw (is-live Tickets.update t (r .live) e) at (w .ticket)
 
   pub onRollback : isLive Tickets.rollback t (r .live) ≡ true → OnRollback t (r .serial) (r .entries) (r .restoring)
-  onRollback e = rw (is-rollback (r .live) t e) at (w .ticket)
+  onRollback e = rw (is-live Tickets.rollback t (r .live) e) at (w .ticket)
 
 -- no ticket is live where an asking for an update is answered Finished
 none-live : (r : Record) (l : Live) → Counts (r .entries) (r .applied) (r .attempted) → Updates (r .phase .number) → r .restoring ≡ false → r .applied ≡ r .entries →

@@ -4,11 +4,12 @@ use mathlib.Core.Bool.{Bool, true, false}
 use mathlib.Core.List.{List, [], _∷_, _++_}
 use lib.Dec.{eqb}
 use lib.ListN.{getD}
-use Rattle.choice.specs.Pick.{pick, _and_, _or_}
-use Rattle.record.specs.Answers.{Told, Said, said}
-use Rattle.record.specs.declared.Outcome.{Outcome}
-use Rattle.record.specs.declared.Outcome.the-variants as O
-use Rattle.calls.specs.Calls.{Call}
+use Rattle.choice.specs.Pick.{pick, _and_}
+use Rattle.record.specs.Classes.{successful, granted, ticketed, taken}
+use Rattle.record.specs.Answers.{Told, Said, saidOf}
+use Rattle.record.specs.Given.{Effect, effectOf}
+use Rattle.record.specs.Given.Effect.{rests, works}
+use Rattle.calls.specs.Calls.{Report, Call}
 use Rattle.calls.specs.Calls.Work.{structure, update, rollback}
 use Rattle.calls.specs.Calls.Report.{structured, updated, rolledBack}
 use Rattle.calls.specs.Calls.Call.{begin, ask, report, edit, commit, recover, recoverRetained, refresh, stamp, check}
@@ -19,7 +20,7 @@ pub record Heard : Type 0 where
   pub answer : Said
 
 abbrev pub hears : Call → Told → Heard
-hears c t = record { call = c; answer = said (t .number) (t .values) }
+hears c t = record { call = c; answer = saidOf t }
 
 -- what a ticket is for: the structure work of a phase, an action, the undoing of an action; unknown where it is not the ticket that
 -- was given last, or the report not of its kind
@@ -44,17 +45,6 @@ pub record Watch : Type 0 where
   pub done : List Item
   pub undone : List Item
 
-abbrev pub performed : Said → Bool
-performed a = eqb (a .number) 0
-
--- "Granted means Ticket or Finished."
-abbrev pub granted : Said → Bool
-granted a = eqb (a .number) 20 or eqb (a .number) 24
-
--- a Done report that is taken is answered More or Finished
-abbrev pub taken : Said → Bool
-taken a = eqb (a .number) 23 or eqb (a .number) 24
-
 -- a transaction begins, or ends: all counts start anew, and the last ticket stays the last
 abbrev pub fresh : ℕ → Bool → Bool → ℕ → Watch → Watch
 fresh commits running structural size w = record {
@@ -70,8 +60,9 @@ fresh commits running structural size w = record {
   undone = [];
 }
 
-abbrev pub turns : Bool → ℕ → Watch → Watch
-turns turned started w = record {
+-- it goes on: a rollback is granted, an update started, or work reported done
+abbrev pub goes : Bool → ℕ → List Item → List Item → Watch → Watch
+goes turned started done undone w = record {
   commits = w .commits;
   running = w .running;
   structural = w .structural;
@@ -80,9 +71,15 @@ turns turned started w = record {
   started = started;
   ticket = w .ticket;
   item = w .item;
-  done = w .done;
-  undone = w .undone;
+  done = done;
+  undone = undone;
 }
+
+abbrev pub turns : Bool → ℕ → Watch → Watch
+turns turned started w = goes turned started (w .done) (w .undone) w
+
+abbrev pub lists : List Item → List Item → Watch → Watch
+lists done undone w = goes (w .turned) (w .started) done undone w
 
 -- a ticket is given: "Ticket carries" its number "and the phase or the action's number"
 abbrev pub gives : (ℕ → Item) → Said → Watch → Watch
@@ -99,81 +96,62 @@ gives for a w = record {
   undone = w .undone;
 }
 
-abbrev pub lists : List Item → List Item → Watch → Watch
-lists done undone w = record {
-  commits = w .commits;
-  running = w .running;
-  structural = w .structural;
-  size = w .size;
-  turned = w .turned;
-  started = w .started;
-  ticket = w .ticket;
-  item = w .item;
-  done = done;
-  undone = undone;
-}
-
-abbrev pub settles : Item → Bool
-settles (settle p) = true
-settles (apply i) = false
-settles (undo i) = false
-settles unknown = false
-
-abbrev pub applies : Item → Bool
-applies (settle p) = false
-applies (apply i) = true
-applies (undo i) = false
-applies unknown = false
-
-abbrev pub undoes : Item → Bool
-undoes (settle p) = false
-undoes (apply i) = false
-undoes (undo i) = true
-undoes unknown = false
+-- a report is of the work that an item is
+abbrev pub isFor : Report → Item → Bool
+isFor (structured c o) (settle p) = true
+isFor (structured c o) (apply i) = false
+isFor (structured c o) (undo i) = false
+isFor (structured c o) unknown = false
+isFor updated (settle p) = false
+isFor updated (apply i) = true
+isFor updated (undo i) = false
+isFor updated unknown = false
+isFor rolledBack (settle p) = false
+isFor rolledBack (apply i) = false
+isFor rolledBack (undo i) = true
+isFor rolledBack unknown = false
 
 -- what a reported ticket is for, where it is the last one and the report is of its kind
-abbrev pub itemOf : (Item → Bool) → ℕ → Watch → Item
-itemOf kind ticket w = pick (eqb ticket (w .ticket) and kind (w .item)) (w .item) unknown
+abbrev pub itemOf : Report → ℕ → Watch → Item
+itemOf of ticket w = pick (eqb ticket (w .ticket) and isFor of (w .item)) (w .item) unknown
 
 abbrev pub notes : Item → Watch → Watch
 notes i w = pick (w .turned) (lists (w .done) (w .undone ++ (i ∷ [])) w) (lists (w .done ++ (i ∷ [])) (w .undone) w)
 
 abbrev pub asked : (ℕ → Item) → Said → Watch → Watch
-asked for a w = pick (eqb (a .number) 20) (gives for a w) w
+asked for a w = pick (ticketed (a .class)) (gives for a w) w
 
 -- "Asking counts as starting": the action of the ticket, and all before it
 abbrev pub askedUpdate : Said → Watch → Watch
-askedUpdate a w = pick (eqb (a .number) 20) (turns (w .turned) (max (w .started) (getD (a .values) 1 0 + 1)) (gives apply a w)) w
+askedUpdate a w = pick (ticketed (a .class)) (turns (w .turned) (max (w .started) (getD (a .values) 1 0 + 1)) (gives apply a w)) w
 
 abbrev pub askedRollback : Said → Watch → Watch
-askedRollback a w = pick (granted a) (turns true (w .started) (asked undo a w)) w
+askedRollback a w = pick (granted (a .class)) (turns true (w .started) (asked undo a w)) w
 
-unfoldable pub reported : (Item → Bool) → ℕ → Outcome → Said → Watch → Watch
-reported kind ticket O.Waiting a w = w
-reported kind ticket (O.Failed code) a w = w
-reported kind ticket O.Done a w = pick (taken a) (notes (itemOf kind ticket w) w) w
+-- "Done reports that are taken"
+unfoldable pub reported : Report → ℕ → Effect → Said → Watch → Watch
+reported of ticket (rests answer) a w = w
+reported of ticket works a w = pick (taken (a .class)) (notes (itemOf of ticket w) w) w
 
 abbrev pub begins : Bool → ℕ → Said → Watch → Watch
-begins structural size a w = pick (performed a) (fresh (w .commits) true structural size w) w
+begins structural size a w = pick (successful (a .class)) (fresh (w .commits) true structural size w) w
 
 abbrev pub ends : ℕ → Said → Watch → Watch
-ends commits a w = pick (performed a) (fresh commits false false 0 w) w
+ends commits a w = pick (successful (a .class)) (fresh commits false false 0 w) w
 
 unfoldable pub sees : Watch → Call → Said → Watch
-sees w (begin structural c o n) a = begins structural n a w
+sees w (begin structural b) a = begins structural (b .actions) a w
 sees w (ask structure) a = asked settle a w
 sees w (ask update) a = askedUpdate a w
 sees w (ask rollback) a = askedRollback a w
-sees w (report (structured c o) t x) a = reported settles t x a w
-sees w (report updated t x) a = reported applies t x a w
-sees w (report rolledBack t x) a = reported undoes t x a w
+sees w (report of t x) a = reported of t (effectOf x) a w
 sees w (edit c o) a = w
 sees w commit a = ends (w .commits + 1) a w
 sees w (recover n) a = ends (w .commits) a w
 sees w recoverRetained a = ends (w .commits) a w
 sees w (refresh n) a = w
 sees w (stamp domain) a = w
-sees w (check domain d v) a = w
+sees w (check domain s) a = w
 
 -- what the watcher knows after a chain
 unfoldable pub watch : Watch → List Heard → Watch

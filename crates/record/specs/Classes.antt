@@ -1,5 +1,5 @@
 -- Document 01, "What a call answers": the classes of answers with their numbers, and which of them are refusals, successful, granted,
--- taken and written. No other file tells answers apart by a number. Assumes nothing.
+-- tickets, taken and written. No other file tells answers apart by a number. Assumes nothing.
 use Prim.Native.Nat.{ℕ}
 use mathlib.Core.Bool.{Bool, true, false}
 use lib.Dec.{eqb}
@@ -69,6 +69,19 @@ abbrev pub granted : Class → Bool
 granted performed = false
 granted (refusal why) = false
 granted (stepping s) = grants s
+
+-- "or a ticket: serial plus one, live."
+abbrev pub tickets : StepAnswer → Bool
+tickets ticket = true
+tickets waiting = false
+tickets failed = false
+tickets more = false
+tickets finished = false
+
+abbrev pub ticketed : Class → Bool
+ticketed performed = false
+ticketed (refusal why) = false
+ticketed (stepping s) = tickets s
 
 -- a Done report that is taken "answers Finished .., else More"
 abbrev pub takes : StepAnswer → Bool
