@@ -6,7 +6,7 @@ use mathlib.Core.Bool.{true}
 use mathlib.Core.List.{List}
 use lib.Dec.{eqb}
 use Rattle.choice.specs.Pick.{_and_, _or_}
-use Rattle.record.specs.Classes.{refused}
+use Rattle.record.specs.Classes.{numberOf, refused}
 use Rattle.status.specs.Status.{StatusCall, Marks, put, entryOf, marking, marksOf, allowed, next}
 use Rattle.status.specs.declared.Entry.{Entry}
 use Rattle.demand_refusals.specs.Rows.{given, among, distinct, count}
@@ -43,6 +43,9 @@ module _ (groups status : List ℕ) (id : ℕ) where
 
     pub status-listed : among (marksOf groups status id c .said .number) statusNumbers ≡ true
     status-listed = one-listed (statusRows groups status id c) all-listed (fits-rows c)
+
+    pub status-named : marksOf groups status id c .said .number ≡ numberOf (marksOf groups status id c .said .class)
+    status-named = fits-rows c .named
 
     pub status-refusal : refused (marksOf groups status id c .said .class) ≡ true → marksOf groups status id c .status ≡ status
     status-refusal = fits-rows c .kept
