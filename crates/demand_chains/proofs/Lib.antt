@@ -14,8 +14,8 @@ pub mod Finishing
 pub mod Turning
 pub mod Recovering
 pub mod Revision
-pub mod Running
 pub mod Stamps
+pub mod Demands
 pub mod Theorems
 pub mod From
 pub mod SentCalls

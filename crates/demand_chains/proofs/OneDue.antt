@@ -28,15 +28,15 @@ unfolding due
 due-is r w (ask structure) d = settle (apart-of _ d)
 due-is r w (ask update) d = let x = due-update w d in apply (x .0) (x .1)
 due-is r w (ask rollback) d = let x = both d in undo (x .0) (ltb-true _ _ (x .1))
-due-is r w (begin structural c o n) d = never (sym d)
-due-is r w (report k t x) d = never (sym d)
+due-is r w (begin structural b) d = never (sym d)
+due-is r w (report of t x) d = never (sym d)
 due-is r w (edit c o) d = never (sym d)
 due-is r w commit d = never (sym d)
 due-is r w (recover n) d = never (sym d)
 due-is r w recoverRetained d = never (sym d)
 due-is r w (refresh n) d = never (sym d)
 due-is r w (stamp domain) d = never (sym d)
-due-is r w (check domain e v) d = never (sym d)
+due-is r w (check domain e) d = never (sym d)
 
 -- no phase has two of them
 settling : {p : ℕ} {P : Type 0} → Apart p → Updates p → P
