@@ -7,11 +7,12 @@ use mathlib.Core.List.{List}
 use lib.Dec.{eqb}
 use Rattle.choice.specs.Pick.{_and_, _or_}
 use Rattle.record.specs.Answers.{refused}
-use Rattle.status.specs.Status.{StatusCall, Marks, put, entryOf, marking, marksOf, allowed, next}
+use Rattle.status.specs.Status.{Marks, put, entryOf, marking, marksOf}
 use Rattle.status.specs.declared.Entry.{Entry}
+use Rattle.status.specs.declared.StatusCall.{StatusCall}
 use Rattle.demands.specs.Rows.{given, among, distinct, count}
 use Rattle.demands.specs.Marks.{statusRows, statusNumbers}
-use Rattle.demands.proofs.Rows.{View, Fits, now, row, row-else, again, around, under, over}
+use Rattle.demands.proofs.Rows.{View, Fits, now, row, around, under, over}
 use Rattle.demands.proofs.Rows.Leaf.{stays, goes}
 use Rattle.demands.proofs.OneRow.{Listed, one-given, one-listed}
 
@@ -23,12 +24,11 @@ module _ (groups status : List ℕ) (id : ℕ) where
   unfolding statusRows entryOf marking put refused _and_
   fits-rows c =
       over F
-      (again _ _ _ _ (again _ _ _ _ (row _ (stays refl refl) (λ _.
-      again _ _ _ _ (around _ _ _ (stays refl refl)
-      (row-else _ (stays refl refl) (λ _. under F (row {v = leaving} _ (stays refl refl) (λ _. now (goes refl refl))))))))))
+      (row _ (stays refl refl) (λ _. around _ _ _ (stays refl refl)
+      (row _ (stays refl refl) (λ _. under F (row {v = leaving} _ (stays refl refl) (λ _. now (goes refl refl)))))))
     where
       F : Entry → Marks
-      F e = marking e status (allowed c) (next c)
+      F = marking c status
 
   module _ (c : StatusCall) where
     all-listed : Listed (statusRows groups status id c) statusNumbers

@@ -71,8 +71,8 @@ abbrev pub otherLengths : List ℕ → List ℕ → Bool
 otherLengths groups status = not (eqb (length groups) (length status)) or ltb (length status) 1 or ltb mostIds (length status)
 
 -- "Ids 0 or past the end then give 13, before any byte is read."
-abbrev pub pastEnd : List ℕ → ℕ → Bool
-pastEnd status id = eqb id 0 or leb (length status) id
+abbrev pub outside : List ℕ → ℕ → Bool
+outside status id = eqb id 0 or leb (length status) id
 
 -- "A group byte over 7, a status byte over 15, or a nonzero status byte without 1, gives 7 for that id."
 unfoldable pub bytesSound : ℕ → ℕ → Bool
@@ -82,7 +82,7 @@ bytesSound group mark = leb group groupMost and leb mark markMost and (eqb mark 
 unfoldable pub entryOf : List ℕ → List ℕ → ℕ → Entry
 entryOf groups status id =
     pick (otherLengths groups status) (No BadArea)
-    (pick (pastEnd status id) (No NoStatus)
+    (pick (outside status id) (No NoStatus)
     (pick (not (bytesSound (getD groups id 0) (getD status id 0))) (No Damaged)
     (At id (getD groups id 0) (getD status id 0))))
 

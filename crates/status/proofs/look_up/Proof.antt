@@ -26,11 +26,15 @@ shared-slice-read-mark c = inside _ _ _ (c .before .before .before .if1 .left) (
 
 returns-3 : tie.Need-returns-3
 unfolding entryOf bytesSound _and_ _or_
-returns-3 c = no _ (c .before .before .before .before .before .if1 .left) (no _ (c .before .before .before .before .if2 .left) (yes _ (rw (c .before .has .ensures) at (c .if3 .taken)) refl))
+returns-3 c =
+    no _ (c .before .before .before .before .before .if1 .left) (no _ (c .before .before .before .before .if2 .left)
+    (yes _ (rw (c .before .has .ensures) at (c .if3 .taken)) refl))
 
 returns-4 : tie.Need-returns-4
 unfolding entryOf bytesSound _and_ _or_
-returns-4 c = no _ (c .before .before .before .before .before .if1 .left) (no _ (c .before .before .before .before .if2 .left) (no _ (rw (c .before .has .ensures) at (c .if3 .left)) refl))
+returns-4 c =
+    no _ (c .before .before .before .before .before .if1 .left) (no _ (c .before .before .before .before .if2 .left)
+    (no _ (rw (c .before .has .ensures) at (c .if3 .left)) refl))
 
 pub look-up-spec : {M : Type 1} → statement M
 look-up-spec = tie.close (tie.spec returns returns-2 shared-slice-read-group shared-slice-read-mark (search needs) returns-3 returns-4)

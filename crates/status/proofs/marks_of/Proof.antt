@@ -9,8 +9,9 @@ returns c = found-no _ _ (c .before .before .before .look-up .ensures) (c .befor
 
 returns-2 : tie.Need-returns-2
 returns-2 c =
-    found-at _ _ (c .before .before .before .before .before .before .before .before .before .look-up .ensures) (c .before .before .before .before .before .before .before .found2 .given .1)
-    (c .before .before .before .before .allowed .ensures) (c .before .before .before .next .ensures) (c .before .before .put .ensures)
+    found-at _ _ (c .before .before .before .before .before .before .before .before .before .look-up .ensures)
+    (c .before .before .before .before .before .before .before .found2 .given .1) (c .before .before .before .before .allowed .ensures)
+    (c .before .before .before .next .ensures) (c .before .before .put .ensures)
 
 pub marks-of-spec : {M : Type 1} → statement M
 marks-of-spec =

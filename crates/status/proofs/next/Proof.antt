@@ -14,13 +14,13 @@ unfolding has
 with-requires-2 c κs = (search needs, λ e. omega (tests, e))
 
 returns : tie.Need-returns
-returns c = cc
+returns c = simp (c .enum-told .given .1)
 
 returns-2 : tie.Need-returns-2
-returns-2 c = cc
+returns-2 c = simp (c .before .enum-told2 .given .1, c .with .ensures)
 
 returns-3 : tie.Need-returns-3
-returns-3 c = cc
+returns-3 c = simp (c .before .enum-told3 .given .1, c .with2 .ensures)
 
 pub next-spec : {M : Type 1} → statement M
 next-spec = tie.close (tie.spec (search needs) (search needs) with-requires (search needs) with-requires-2 returns returns-2 returns-3)
