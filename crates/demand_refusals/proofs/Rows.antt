@@ -60,12 +60,6 @@ module _ {A : Type 0} {v : View A} where
   pub last : {x : A} {k : ℕ} → v .number x ≡ k → numberOf (v .class x) ≡ k → refused (v .class x) ≡ false → Fits v x (k when otherwise ∷ [])
   last e c f = now (goes e c f)
 
-  -- the same answer is given again by the next test
-  pub again : {rows : List Row} (a b : Bool) (x y : A) → Fits v (pick (a or b) x y) rows → Fits v (pick a x (pick b x y)) rows
-  unfolding pick _or_
-  again true b x y f = f
-  again false b x y f = f
-
   -- a number is given again by the test after the next
   pub around : {x y : A} {k m : ℕ} {rest : List Row} (a b c : Bool) → Leaf v x k → Fits v y (m when b ∷ k when c ∷ rest)
       → Fits v (pick a x y) (m when (not a and b) ∷ k when (a or c) ∷ rest)

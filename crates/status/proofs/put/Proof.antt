@@ -1,4 +1,4 @@
--- `status::set_mark` meets its contract. Assumes nothing.
+-- `status::put` meets its contract. Assumes nothing.
 use mathlib.Core.List.{[]}
 use mathlib.Core.Path.{refl, ap, sym}
 use lib.Seq.{set-out}
@@ -7,8 +7,8 @@ use Rattle.record.specs.Classes.Class.{performed}
 use Rattle.record.specs.Answers.{said}
 use Rattle.status.specs.Status.{leavesMarks, put}
 use borrow.Author.Needs.{needs}
-use Rattle.status.proofs.set_mark.Statement.{statement}
-use Rattle.status.proofs.set_mark.Tie as tie
+use Rattle.status.proofs.put.Statement.{statement}
+use Rattle.status.proofs.put.Tie as tie
 
 returns : tie.Need-returns
 unfolding put
@@ -22,5 +22,5 @@ returns-3 : tie.Need-returns-3
 unfolding put
 returns-3 c = no _ (c .before .if1 .left) (ap (leavesMarks (said performed [])) (sym (set-out _ _ _ (c .if2 .left))))
 
-pub set-mark-spec : {M : Type 1} → statement M
-set-mark-spec = tie.close (tie.spec returns (search needs) (search needs) returns-2 returns-3)
+pub put-spec : {M : Type 1} → statement M
+put-spec = tie.close (tie.spec returns (search needs) (search needs) returns-2 returns-3)
