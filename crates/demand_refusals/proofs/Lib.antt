@@ -1,9 +1,9 @@
 pub mod Unique
-pub mod NeverFull
 pub mod Rows
 pub mod OneRow
 pub mod Refusals
 pub mod ExactRefusals
+pub mod NeverFull
 pub mod Transaction
 pub mod Written
 pub mod Logged

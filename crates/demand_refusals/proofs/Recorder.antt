@@ -2,25 +2,25 @@
 -- else that answer; a refusal returns the record that was given and leaves all that was lent, but for the log entry of an ask answered 4
 -- or 5. Assumes nothing.
 use Prim.Native.Nat.{ℕ}
-use mathlib.Core.Path.{_≡_, refl, sym, _∙_, ap}
+use mathlib.Core.Path.{_≡_, refl, _∙_, ap}
 use mathlib.Core.Bool.{Bool, true, false}
 use mathlib.Core.List.{List, _∷_}
-use lib.Dec.{eqb, ltb}
-use borrow.Author.Tests.{eq-eqb}
+use lib.Dec.{eqb}
 use Rattle.choice.specs.Pick.{pick, _or_}
-use Rattle.choice.proofs.Picks.{yes}
-use Rattle.choice.proofs.Tests.{never, no-left, tests}
-use Rattle.record.specs.Classes.{refused}
+use Rattle.choice.proofs.Tests.{never, no-left}
+use Rattle.record.specs.Classes.{numberOf, refused}
 use Rattle.record.specs.declared.Record.{Record}
 use Rattle.log.specs.Log.{full}
 use Rattle.calls.specs.Lending.{Lending, callOf, lent}
-use Rattle.calls.specs.Kinds.{kind, writtenAs}
+use Rattle.calls.specs.Kinds.{kind}
 use Rattle.noting.specs.Through.{inner, leavesThrough}
 use Rattle.demand_refusals.specs.Rows.{among, distinct, count}
 use Rattle.demand_refusals.specs.Refusals.{returned, numbersOf}
 use Rattle.demand_refusals.specs.Through.{givenThrough, numbersThrough, logAfter}
 use Rattle.demand_refusals.proofs.OneRow.{one-passes, apart}
-use Rattle.demand_refusals.proofs.ExactRefusals.{all-listed, exact-refusals, listed-answer}
+use Rattle.demand_refusals.proofs.Refusals.{spoken}
+use Rattle.demand_refusals.proofs.ExactRefusals.{exact-refusals, listed-answer}
+use Rattle.demand_refusals.proofs.Written.{no-kind}
 use Rattle.demand_refusals.proofs.Logged.{ends-as}
 
 tested : (b : Bool) (x y : ℕ) (f : ℕ → Bool) {p q : Bool} → f x ≡ p → f y ≡ q → f (pick b x y) ≡ pick b p q
@@ -33,23 +33,18 @@ unfolding _or_
 either-way true e = refl
 either-way false e = e
 
--- a call of no kind is not written
-no-kind : (k n : ℕ) → ltb 0 k ≡ false → writtenAs k n ≡ false
-unfolding writtenAs
-no-kind k n h = sym (yes _ (eq-eqb k 0 (omega tests)) refl)
-
 -- 12 is given only where it is listed
-twelve-listed : (b k : Bool) (n : ℕ) (ns : List ℕ) → (k ≡ false → b ≡ false) → among n ns ≡ true → among (pick b 12 n) (pick k (12 ∷ ns) ns) ≡ true
+twelve-listed : (b k : Bool) (n : ℕ) (ns : List ℕ) → (k ≡ true → b ≡ false) → among n ns ≡ true → among (pick b 12 n) (pick k ns (12 ∷ ns)) ≡ true
 unfolding pick among _or_
-twelve-listed true true n ns e h = refl
-twelve-listed true false n ns e h = never (e refl)
-twelve-listed false true n ns e h = either-way (eqb 12 n) h
-twelve-listed false false n ns e h = h
+twelve-listed true true n ns e h = never (e refl)
+twelve-listed true false n ns e h = refl
+twelve-listed false true n ns e h = h
+twelve-listed false false n ns e h = either-way (eqb 12 n) h
 
-distinct-through : (k : Bool) (ns : List ℕ) → distinct (12 ∷ ns) ≡ true → distinct (pick k (12 ∷ ns) ns) ≡ true
+distinct-through : (k : Bool) (ns : List ℕ) → distinct (12 ∷ ns) ≡ true → distinct (pick k ns (12 ∷ ns)) ≡ true
 unfolding pick
-distinct-through true ns d = d
-distinct-through false ns d = apart ns d
+distinct-through true ns d = apart ns d
+distinct-through false ns d = d
 
 module _ (r : Record) (log : List ℕ) (c : Lending true) where
   abbrev n : ℕ
@@ -63,13 +58,17 @@ module _ (r : Record) (log : List ℕ) (c : Lending true) where
   unfolding numbersThrough
   recorder-listed =
       ap (λ (m : ℕ). among m (numbersThrough c)) (ends-as r log c .number)
-      ∙ twelve-listed _ _ n (numbersOf (callOf c)) (λ e. no-left (full log) (no-kind (kind c) n e)) (listed-answer _ _ r (callOf c))
+      ∙ twelve-listed _ _ n (numbersOf (callOf c)) (λ e. no-left (full log) (no-kind (kind c) _ e)) (listed-answer _ _ r (callOf c))
 
   -- exactly one answer is given
   pub recorder-one : count (givenThrough r log c) (numbersThrough c) ≡ 1
   unfolding numbersThrough
   recorder-one =
-      one-passes _ (givenThrough r log c) (numbersThrough c) recorder-exact (distinct-through _ (numbersOf (callOf c)) (all-listed true true r (callOf c) .1)) recorder-listed
+      one-passes _ (givenThrough r log c) (numbersThrough c) recorder-exact
+      (distinct-through _ (numbersOf (callOf c)) (spoken true true r (callOf c) .1 .1)) recorder-listed
+
+  pub recorder-named : leavesThrough r log c .told .number ≡ numberOf (leavesThrough r log c .told .class)
+  recorder-named = ends-as r log c .named
 
   pub recorder-refusal : refused (leavesThrough r log c .told .class) ≡ true
       → (leavesThrough r log c .told .state ≡ returned r (callOf c))

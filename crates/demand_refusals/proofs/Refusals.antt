@@ -1,119 +1,138 @@
 -- The opening and every call on a record fit their rows: each answer is given exactly when its row says, and a refusal returns the
--- record that was given. Assumes nothing.
+-- record that was given; and the rows' numbers are those that are listed. Assumes nothing.
 use Prim.Native.Nat.{ℕ, _+_}
 use mathlib.Core.Path.{_≡_, refl, ap, subst}
 use mathlib.Core.Bool.{Bool, true, false, not}
 use mathlib.Core.List.{List, [], _∷_}
-use Rattle.choice.specs.Pick.{pick, _and_}
+use borrow.Author.Tests.{not-false}
+use Rattle.choice.specs.Pick.{pick, _and_, _or_}
 use Rattle.choice.proofs.Tests.{both}
 use Rattle.phases.specs.Phases.{hasSuccessor, successor, boundary}
-use Rattle.record.specs.Live.{isLive}
-use Rattle.record.specs.Live as Tickets
-use Rattle.record.specs.Classes.{refused, refusalNumber}
-use Rattle.record.specs.Answers.{Told, told, refuse}
+use Rattle.record.specs.Classes.{refusalNumber, numberOf, refused}
+use Rattle.record.specs.Classes.Class.{performed}
+use Rattle.record.specs.Answers.{Told, told, answer, refuse}
+use Rattle.record.specs.Given.{effectOf}
 use Rattle.record.specs.declared.Record.{Record}
+use Rattle.record.specs.declared.Answer.the-variants.{More, Finished}
 use Rattle.record.specs.declared.Outcome.{Outcome}
 use Rattle.record.specs.declared.Outcome.the-variants as O
 use Rattle.record.specs.declared.Refusal.{Refusal}
-use Rattle.record.specs.declared.Refusal.the-variants.{BadArea, Damaged, Stale}
+use Rattle.record.specs.declared.Refusal.the-variants.{NotReady, Recovering, BadArea, Damaged, Worn}
+use Rattle.log.specs.Kinds.{reports}
 use Rattle.wholeness.specs.Whole.{whole}
-use Rattle.wholeness.specs.Gates.{gateOf, gated}
-use Rattle.wholeness.specs.declared.Gate.{Gate}
+use Rattle.wholeness.specs.Gates.{gateOf, gated, Bar, barring, longPayloads, longSnapshot}
 use Rattle.wholeness.specs.declared.Gate.the-variants.{Open, Shut}
 use Rattle.wholeness.proofs.Facts.{parts, live-structure}
-use Rattle.step_begins.specs.Opening.{openStep}
-use Rattle.step_begins.specs.Beginning.{beginOwn, beginStep, editOwn}
+use Rattle.step_begins.specs.Opening.{unopened, openBars, openStep}
+use Rattle.step_begins.specs.Beginning.{beginBars, beginOwn, editBars, editOwn}
 use Rattle.step_asks.specs.Asks.{askStructureOwn, askUpdateOwn, askRollbackOwn}
 use Rattle.step_reports.specs.Done.{onward, advanced, structureDone, updateDone, rollbackDone}
-use Rattle.step_reports.specs.Reports.{behind, reportGate, reported, reportStructureOwn}
-use Rattle.step_ends.specs.Ending.{commitOwn, unrestored, recoverOwn, recoverRetainedOwn, refreshOwn}
+use Rattle.step_reports.specs.Reports.{reported, reportStructureOwn, reportUpdateBars, reportUpdateOwn, reportRollbackBars, reportRollbackOwn}
+use Rattle.step_ends.specs.Ending.{commitBars, commitOwn, unrestored, recoverBars, recoverOwn, recoverRetainedOwn, refreshBars, refreshOwn}
 use Rattle.step_stamps.specs.Stamping.{stampStep, checkStep}
 use Rattle.calls.specs.Calls.{AnyCall, stepOf}
 use Rattle.calls.specs.Calls.Work.{structure, update, rollback}
 use Rattle.calls.specs.Calls.Report.{structured, updated, rolledBack}
 use Rattle.calls.specs.Calls.Call.{begin, ask, report, edit, commit, recover, recoverRetained, refresh, stamp, check}
 use Rattle.calls.specs.Calls.AnyCall.{opens, calls}
-use Rattle.demand_refusals.specs.Rows.{Row, _when_, otherwise}
-use Rattle.demand_refusals.specs.Refusals.{returned, gateRows, beginRows, reportRows, rows}
-use Rattle.demand_refusals.proofs.Rows.{View, Fits, Leaf, now, later, row, row-else, around, alike, along, under, over}
+use Rattle.calls.specs.Kinds.{kindOf, kindOfAny}
+use Rattle.demand_refusals.specs.Rows.{Row, _when_, among, distinct}
+use Rattle.demand_refusals.specs.Refusals.{returned, gateRows, doneRows, reportRows, rows, numbersOf}
+use Rattle.demand_refusals.proofs.Rows.{View, Fits, now, later, row, last, around, alike, over}
 use Rattle.demand_refusals.proofs.Rows.Leaf.{stays, goes}
+use Rattle.demand_refusals.proofs.OneRow.{Listed}
 
 -- what is told, where a refusal is to return the record r
 abbrev pub telling : Record → View Told
-telling r = record { number = λ t. t .number; same = λ t. t .state ≡ r }
+telling r = record { class = λ t. t .class; number = λ t. t .number; same = λ t. t .state ≡ r }
+
+-- the rows of a call's own refusals
+abbrev barRows : List Bar → List Row → List Row
+barRows [] rest = rest
+barRows (b ∷ bs) rest = refusalNumber (b .why) when b .test ∷ barRows bs rest
 
 module _ (r : Record) where
   abbrev Tells : Told → List Row → Type 0
   Tells t rows = Fits (telling r) t rows
 
+  refuses : (why : Refusal) (b : Bool) {y : Told} {rest : List Row} → Tells y rest → Tells (pick b (refuse why r) y) (refusalNumber why when b ∷ rest)
+  refuses why b f = row b (stays refl refl refl) (λ _. f)
+
+  bars : (bs : List Bar) {done : Told} {rest : List Row} → Tells done rest → Tells (barring bs r done) (barRows bs rest)
+  bars [] f = f
+  bars (b ∷ bs) f = refuses (b .why) (b .test) (bars bs f)
+
   -- the gate's refusals 6 and 7, before what an open gate gives
-  gate : (F : Gate → Told) {rest : List Row} → ((why : Refusal) → F (Shut why) ≡ refuse why r) → (sized sound : Bool)
-      → (whole r ≡ true → Tells (F Open) rest) → Tells (F (gateOf sized sound r)) (gateRows sized sound r rest)
-  unfolding gateOf
-  gate F shut sized sound f = over F (row _ (shuts BadArea) (λ _. row-else _ (shuts Damaged) (λ e. under F (f (both e .1)))))
+  gate : {own : Told} {rest : List Row} (sized sound : Bool) → (whole r ≡ true → Tells own rest)
+      → Tells (gated (gateOf sized sound r) r own) (gateRows sized sound r rest)
+  unfolding gateOf gated pick
+  gate {own} {rest} sized sound f = by sized (sound and whole r) (λ e. f (both e .1))
     where
-      shuts : (why : Refusal) → Leaf (along F (telling r)) (Shut why) (refusalNumber why)
-      shuts why = stays (ap (λ (t : Told). t .number) (shut why)) (ap (λ (t : Told). t .state) (shut why))
+      by : (a b : Bool) → (b ≡ true → Tells own rest)
+          → Tells (gated (pick (not a) (Shut BadArea) (pick b Open (Shut Damaged))) r own) (6 when not a ∷ 7 when not b ∷ rest)
+      by false b g = now (stays refl refl refl)
+      by true false g = later (now (stays refl refl refl))
+      by true true g = later (later (g refl))
 
-  gated-call : {own : Told} {rest : List Row} (sized sound : Bool) → Tells own rest → Tells (gated (gateOf sized sound r) r own) (gateRows sized sound r rest)
-  unfolding gated
-  gated-call {own} sized sound f = gate (λ g. gated g r own) (λ why. refl) sized sound (λ w. f)
-
-  gated-report : {own : Told} {rest : List Row} (sized sound : Bool) (kind ticket : ℕ)
-      → (whole r ≡ true → isLive kind ticket (r .live) ≡ true → Tells own rest)
-      → Tells (gated (reportGate sized sound r kind ticket) r own) (gateRows sized sound r (10 when not (isLive kind ticket (r .live)) ∷ rest))
-  unfolding gated reportGate behind
-  gated-report {own} sized sound kind ticket f =
-      gate (λ g. gated (behind g (pick (isLive kind ticket (r .live)) Open (Shut Stale))) r own) (λ why. refl) sized sound
-      (λ w. over (λ g. gated g r own) (row-else _ (stays refl refl) (λ e. under (λ g. gated g r own) (f w e))))
-
-  outcomes : (x : Outcome) (after : Record) {done : Told} {last : Bool} → Tells done (24 when last ∷ 23 when otherwise ∷ [])
-      → Tells (reported x after done) (reportRows x last)
-  unfolding reported _and_
-  outcomes O.Waiting after f = now (goes refl refl)
-  outcomes (O.Failed code) after f = later (now (goes refl refl))
-  outcomes O.Done after f = later (later f)
+  -- a report by its outcome; Done's answer is at the last Finished, else More
+  outcomes : (x : Outcome) (end : Bool) (after a b : Record)
+      → Tells (reported (effectOf x) after (pick end (answer Finished a) (answer More b))) (reportRows x end)
+  unfolding reported
+  outcomes O.Waiting end after a b = now (goes refl refl refl)
+  outcomes (O.Failed code) end after a b = later (now (goes refl refl refl))
+  outcomes O.Done end after a b = later (later (row end (goes refl refl refl) (λ _. last refl refl refl)))
 
 -- a phase that has a successor goes to the next number
 next-phase : (r : Record) → hasSuccessor (r .phase .number) ≡ true → advanced r .phase .number ≡ r .phase .number + 1
 unfolding advanced onward successor pick
 next-phase r h = simp h
 
--- Done's answer: at a boundary Finished, else More
-structure-done : (r s : Record) → hasSuccessor (s .phase .number) ≡ true
-    → Tells r (structureDone s) (24 when boundary (s .phase .number + 1) ∷ 23 when otherwise ∷ [])
-unfolding structureDone _and_
-structure-done r s h =
-    subst (λ (p : ℕ). Tells r (structureDone s) (24 when boundary p ∷ 23 when otherwise ∷ [])) (next-phase s h)
-    (row _ (goes refl refl) (λ _. now (goes refl refl)))
+structure-outcomes : (r s : Record) (x : Outcome) → hasSuccessor (s .phase .number) ≡ true
+    → Tells r (reported (effectOf x) s (structureDone s)) (reportRows x (boundary (s .phase .number + 1)))
+unfolding structureDone
+structure-outcomes r s x h =
+    subst (λ (p : ℕ). Tells r (reported (effectOf x) s (structureDone s)) (reportRows x (boundary p))) (next-phase s h) (outcomes r x _ _ _ _)
 
 module _ (sized sound : Bool) (r : Record) where
-  begins : (structural : Bool) (c o n : ℕ) → Tells r (beginStep sized sound structural r c o n) (gateRows sized sound r (beginRows r c o n))
-  unfolding beginOwn _and_
-  begins structural c o n =
-      gated-call r sized sound
-      (row _ (stays refl refl) (λ _. row _ (stays refl refl) (λ _. row _ (stays refl refl) (λ _. row _ (stays refl refl) (λ _. now (goes refl refl))))))
+  -- a call with a row of refusals of its own, which else is performed
+  performs : (bs : List Bar) (done : Told) → done .class ≡ performed → done .number ≡ 0
+      → Tells r (gated (gateOf sized sound r) r (barring bs r done)) (gateRows sized sound r (barRows bs doneRows))
+  performs bs done c e = gate r sized sound (λ _. bars r bs (last e (ap numberOf c) (ap refused c)))
 
-  pub fits-rows : (c : AnyCall) → Fits (telling (returned r c)) (stepOf sized sound r c) (rows sized sound r c)
-  unfolding returned rows _and_ openStep askStructureOwn askUpdateOwn askRollbackOwn reportStructureOwn updateDone rollbackDone editOwn commitOwn unrestored recoverOwn recoverRetainedOwn refreshOwn stampStep checkStep
-  fits-rows (opens v s n) = row _ (stays refl refl) (λ _. row _ (stays refl refl) (λ _. now (goes refl refl)))
-  fits-rows (calls (begin false c o n)) = begins false c o n
-  fits-rows (calls (begin true c o n)) = begins true c o n
-  fits-rows (calls (ask structure)) =
-      gated-call r sized sound (row _ (stays refl refl) (λ _. row _ (goes refl refl) (λ _. row _ (stays refl refl) (λ _. now (goes refl refl)))))
-  fits-rows (calls (ask update)) =
-      gated-call r sized sound (row _ (stays refl refl) (λ _. row _ (goes refl refl) (λ _. row _ (stays refl refl) (λ _. now (goes refl refl)))))
-  fits-rows (calls (ask rollback)) =
-      gated-call r sized sound (around _ _ _ (goes refl refl) (row _ (stays refl refl) (λ _. row _ (goes refl refl) (λ _. now (goes refl refl)))))
-  fits-rows (calls (report (structured c o) t x)) =
-      gated-report r sized sound Tickets.structure t (λ w e. row _ (stays refl refl) (λ _. outcomes r x _ (structure-done r _ (live-structure _ t _ _ _ _ _ _ (parts w .live) e))))
-  fits-rows (calls (report updated t x)) = gated-report r sized sound Tickets.update t (λ w e. outcomes r x _ (row _ (goes refl refl) (λ _. now (goes refl refl))))
-  fits-rows (calls (report rolledBack t x)) = gated-report r sized sound Tickets.rollback t (λ w e. outcomes r x _ (row _ (goes refl refl) (λ _. now (goes refl refl))))
-  fits-rows (calls (edit c o)) = gated-call r sized sound (row _ (stays refl refl) (λ _. row _ (stays refl refl) (λ _. now (goes refl refl))))
-  fits-rows (calls commit) = gated-call r sized sound (row _ (stays refl refl) (λ _. row _ (stays refl refl) (λ _. now (goes refl refl))))
-  fits-rows (calls (recover n)) =
-      gated-call r sized sound (row _ (stays refl refl) (λ _. row _ (stays refl refl) (λ _. row _ (stays refl refl) (λ _. now (goes refl refl)))))
-  fits-rows (calls recoverRetained) = gated-call r sized sound (row _ (stays refl refl) (λ _. row _ (stays refl refl) (λ _. now (goes refl refl))))
-  fits-rows (calls (refresh n)) = gated-call r sized sound (row _ (stays refl refl) (λ _. row _ (stays refl refl) (λ _. now (goes refl refl))))
-  fits-rows (calls (stamp d)) = over (λ s. told s r) (row _ (stays refl refl) (λ _. row _ (stays refl refl) (λ _. now (goes refl refl))))
-  fits-rows (calls (check d e v)) = over (λ s. told s r) (row _ (stays refl refl) (λ _. alike _ (now (goes refl refl)) (now (goes refl refl))))
+  -- a call fits its rows, whose numbers are listed; a report is answered neither 4 nor 5
+  abbrev Spoken : AnyCall → Type 0
+  Spoken c =
+      Fits (telling (returned r c)) (stepOf sized sound r c) (rows sized sound r c)
+      × Listed (rows sized sound r c) (numbersOf c)
+      × ((among 4 (numbersOf c) or among 5 (numbersOf c)) and reports (kindOfAny c) ≡ false)
+
+  pub spoken : (c : AnyCall) → Spoken c
+  unfolding returned rows numbersOf among distinct kindOf _and_ _or_ openStep beginOwn askStructureOwn askUpdateOwn askRollbackOwn reportStructureOwn reportUpdateOwn reportRollbackOwn updateDone rollbackDone editOwn commitOwn unrestored recoverOwn recoverRetainedOwn refreshOwn stampStep checkStep
+  spoken (opens given n) = (bars unopened (openBars sized n) (last refl refl refl), (refl, refl), refl)
+  spoken (calls (begin structural b)) = (performs (beginBars r b) _ refl refl, (refl, refl), refl)
+  spoken (calls (ask structure)) =
+      (gate r sized sound (λ _. refuses r NotReady _ (row _ (goes refl refl refl) (λ _. refuses r Worn _ (last refl refl refl)))), (refl, refl), refl)
+  spoken (calls (ask update)) =
+      (gate r sized sound (λ _. refuses r Recovering _ (row _ (goes refl refl refl) (λ _. refuses r Worn _ (last refl refl refl)))), (refl, refl), refl)
+  spoken (calls (ask rollback)) = (
+    gate r sized sound (λ _. around _ _ _ (goes refl refl refl) (refuses r Worn _ (row _ (goes refl refl refl) (λ _. last refl refl refl)))),
+    (refl, refl),
+    refl,
+  )
+  spoken (calls (report (structured c o) t x)) = (
+    gate r sized sound (λ w. row _ (stays refl refl refl) (λ e. bars r (longPayloads c o [])
+        (structure-outcomes r _ x (live-structure _ t _ _ _ _ _ _ (parts w .live) (not-false _ e))))),
+    (refl, refl),
+    refl,
+  )
+  spoken (calls (report updated t x)) = (gate r sized sound (λ _. bars r (reportUpdateBars r t) (outcomes r x _ _ _ _)), (refl, refl), refl)
+  spoken (calls (report rolledBack t x)) = (gate r sized sound (λ _. bars r (reportRollbackBars r t) (outcomes r x _ _ _ _)), (refl, refl), refl)
+  spoken (calls (edit c o)) = (performs (editBars r c o) _ refl refl, (refl, refl), refl)
+  spoken (calls commit) = (performs (commitBars r) _ refl refl, (refl, refl), refl)
+  spoken (calls (recover n)) = (performs (recoverBars r (longSnapshot n [])) _ refl refl, (refl, refl), refl)
+  spoken (calls recoverRetained) = (performs (recoverBars r []) _ refl refl, (refl, refl), refl)
+  spoken (calls (refresh n)) = (performs (refreshBars r n) _ refl refl, (refl, refl), refl)
+  spoken (calls (stamp d)) =
+      (over (λ s. told s r) (row _ (stays refl refl refl) (λ _. row _ (stays refl refl refl) (λ _. last refl refl refl))), (refl, refl), refl)
+  spoken (calls (check d s)) =
+      (over (λ s. told s r) (row _ (stays refl refl refl) (λ _. alike _ (last refl refl refl) (last refl refl refl))), (refl, refl), refl)

@@ -3,45 +3,40 @@
 use Prim.Native.Nat.{ℕ}
 use mathlib.Core.Path.{_≡_, refl, sym, _∙_, ap}
 use mathlib.Core.Bool.{Bool, true, false, not}
-use mathlib.Core.List.{List, _∷_}
+use mathlib.Core.List.{List, [], _∷_}
 use lib.Dec.{eqb}
 use Rattle.choice.specs.Pick.{pick, _and_, _or_}
 use Rattle.choice.proofs.Tests.{never}
-use Rattle.record.specs.Classes.{refused}
-use Rattle.demand_refusals.specs.Rows.{Row, _when_, given}
+use Rattle.record.specs.Classes.{Class, numberOf, refused}
+use Rattle.demand_refusals.specs.Rows.{Row, _when_, otherwise, given}
 
--- the number of an answer, and what it says of all that the call was given where it is a refusal
+-- the class and the number of an answer, and what it says of all that the call was given where it is a refusal
 pub record View (A : Type 0) : Type 1 where
+  pub class : A → Class
   pub number : A → ℕ
   pub same : A → Type 0
 
--- an answer is given exactly by its rows, and a refusal leaves all the same
+-- an answer is given exactly by its rows, under the number of its class, and a refusal leaves all the same
 pub record Fits {A : Type 0} (v : View A) (x : A) (rows : List Row) : Type 0 where
   pub exact : (n : ℕ) → eqb (v .number x) n ≡ given rows n
-  pub kept : refused (v .number x) ≡ true → v .same x
+  pub named : v .number x ≡ numberOf (v .class x)
+  pub kept : refused (v .class x) ≡ true → v .same x
 
 -- one answer of number k, which leaves all the same or is no refusal
 pub data Leaf {A : Type 0} (v : View A) (x : A) (k : ℕ) : Type 0 where
-  stays : v .number x ≡ k → v .same x → Leaf v x k
-  goes : v .number x ≡ k → refused k ≡ false → Leaf v x k
+  stays : v .number x ≡ k → numberOf (v .class x) ≡ k → v .same x → Leaf v x k
+  goes : v .number x ≡ k → numberOf (v .class x) ≡ k → refused (v .class x) ≡ false → Leaf v x k
 
 module _ {A : Type 0} {v : View A} where
-  number-of : {x : A} {k : ℕ} → Leaf v x k → v .number x ≡ k
-  number-of (stays e s) = e
-  number-of (goes e f) = e
-
-  kept-by : {x : A} {k : ℕ} → Leaf v x k → refused (v .number x) ≡ true → v .same x
-  kept-by (stays e s) h = s
-  kept-by (goes e f) h = never (sym h ∙ ap refused e ∙ f)
-
   -- the first row holds, or it does not
   pub now : {x : A} {k : ℕ} {rest : List Row} → Leaf v x k → Fits v x (k when true ∷ rest)
   unfolding given pick
-  now l = record { exact = λ n. ap (λ (m : ℕ). eqb m n) (number-of l); kept = kept-by l }
+  now (stays e c s) = record { exact = λ n. ap (λ (m : ℕ). eqb m n) e; named = e ∙ sym c; kept = λ h. s }
+  now (goes e c f) = record { exact = λ n. ap (λ (m : ℕ). eqb m n) e; named = e ∙ sym c; kept = λ h. never (sym h ∙ f) }
 
   pub later : {x : A} {k : ℕ} {rest : List Row} → Fits v x rest → Fits v x (k when false ∷ rest)
   unfolding given pick
-  later f = record { exact = f .exact; kept = f .kept }
+  later f = record { exact = f .exact; named = f .named; kept = f .kept }
 
   -- a test that no row asks
   pub alike : {x y : A} {rows : List Row} (b : Bool) → Fits v x rows → Fits v y rows → Fits v (pick b x y) rows
@@ -55,17 +50,9 @@ module _ {A : Type 0} {v : View A} where
   row true l f = now l
   row false l f = later (f refl)
 
-  -- its opposite does
-  pub row-else : {x y : A} {k : ℕ} {rest : List Row} (b : Bool) → Leaf v y k → (b ≡ true → Fits v x rest) → Fits v (pick b x y) (k when not b ∷ rest)
-  unfolding pick
-  row-else true l f = later (f refl)
-  row-else false l f = now l
-
-  -- the same answer is given again by the next test
-  pub again : {rows : List Row} (a b : Bool) (x y : A) → Fits v (pick (a or b) x y) rows → Fits v (pick a x (pick b x y)) rows
-  unfolding pick _or_
-  again true b x y f = f
-  again false b x y f = f
+  -- the last row
+  pub last : {x : A} {k : ℕ} → v .number x ≡ k → numberOf (v .class x) ≡ k → refused (v .class x) ≡ false → Fits v x (k when otherwise ∷ [])
+  last e c f = now (goes e c f)
 
   -- a number is given again by the test after the next
   pub around : {x y : A} {k m : ℕ} {rest : List Row} (a b c : Bool) → Leaf v x k → Fits v y (m when b ∷ k when c ∷ rest)
@@ -76,11 +63,11 @@ module _ {A : Type 0} {v : View A} where
 
 -- an answer that is made from another by F, which is a case of nested picks
 abbrev pub along : {A B : Type 0} → (A → B) → View B → View A
-along F v = record { number = λ x. v .number (F x); same = λ x. v .same (F x) }
+along F v = record { class = λ x. v .class (F x); number = λ x. v .number (F x); same = λ x. v .same (F x) }
 
 module _ {A B : Type 0} (F : A → B) {v : View B} {x : A} {rows : List Row} where
   pub under : Fits v (F x) rows → Fits (along F v) x rows
-  under f = record { exact = f .exact; kept = f .kept }
+  under f = record { exact = f .exact; named = f .named; kept = f .kept }
 
   pub over : Fits (along F v) x rows → Fits v (F x) rows
-  over f = record { exact = f .exact; kept = f .kept }
+  over f = record { exact = f .exact; named = f .named; kept = f .kept }

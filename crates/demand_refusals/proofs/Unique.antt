@@ -2,7 +2,7 @@
 use Prim.Native.Nat.{ℕ}
 use mathlib.Core.Path.{_≡_, sym, _∙_, ap}
 use mathlib.Core.List.{List, _∷_}
-use Rattle.record.specs.Answers.{Told, Said, said, told, tells}
+use Rattle.record.specs.Answers.{Told, Said, told, saidOf, tells}
 use Rattle.record.specs.Leaves.{Leaves, leaves}
 use Rattle.record.specs.declared.Record.{Record}
 use Rattle.record.specs.declared.Stepped.{Stepped}
@@ -42,10 +42,10 @@ one-checked d a b p q = checked-one a b (one p q)
 
 -- of the forms told (saysStamping a) r ≡ d and told (saysChecked a) r ≡ d
 pub one-stamped : (r : Record) (d : Told) (a b : Stamping) → told (saysStamping a) r ≡ d → told (saysStamping b) r ≡ d → a ≡ b
-one-stamped r d a b p q = stamping-one a b (ap (λ (t : Told). said (t .number) (t .values)) (one p q))
+one-stamped r d a b p q = stamping-one a b (ap saidOf (one p q))
 
 pub one-checking : (r : Record) (d : Told) (a b : Checked) → told (saysChecked a) r ≡ d → told (saysChecked b) r ≡ d → a ≡ b
-one-checking r d a b p q = checked-one a b (ap (λ (t : Told). said (t .number) (t .values)) (one p q))
+one-checking r d a b p q = checked-one a b (ap saidOf (one p q))
 
 -- of the form leavesMarks (saysMarked m) bytes ≡ d: the status calls
 pub one-marked : (d : Marks) (a b : Marked) (l m : List ℕ) → leavesMarks (saysMarked a) l ≡ d → leavesMarks (saysMarked b) m ≡ d → (a ≡ b) × (l ≡ m)

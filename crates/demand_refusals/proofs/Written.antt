@@ -1,109 +1,79 @@
 -- Of the refusals, exactly an ask's 4 and 5 are written, and then the log's head is sound. Assumes nothing.
-use Prim.Native.Nat.{ℕ, _≤_}
+use Prim.Native.Nat.{ℕ}
 use mathlib.Core.Path.{_≡_, refl, sym, _∙_, ap}
 use mathlib.Core.Bool.{Bool, true, false}
-use mathlib.Core.List.{List, _∷_}
-use lib.Dec.{eqb, leb}
-use borrow.Author.Tests.{not-false, lt-leb, eq-eqb, ne-eqb}
+use mathlib.Core.List.{List}
+use lib.Dec.{eqb}
+use borrow.Author.Tests.{eqb-true}
 use Rattle.choice.specs.Pick.{pick, _and_, _or_}
-use Rattle.choice.proofs.Tests.{never, both, either, no-left, tests}
-use Rattle.record.specs.Classes.{refused, stepWritten, callWritten}
+use Rattle.choice.proofs.Picks.{yes}
+use Rattle.choice.proofs.Tests.{never, neither, and-true, test}
+use Rattle.record.specs.Classes.{Class, numberOf, refused, stepWritten, callWritten}
+use Rattle.record.specs.Classes as Classes
+use Rattle.record.specs.Classes.Class.{performed, refusal, stepping}
 use Rattle.record.specs.declared.Record.{Record}
-use Rattle.log.specs.Log.{sound}
-use Rattle.log.specs.Kinds.{asks}
-use Rattle.calls.specs.Calls.{AnyCall, stepOf}
-use Rattle.calls.specs.Calls.Work.{structure, update, rollback}
-use Rattle.calls.specs.Calls.Report.{structured, updated, rolledBack}
-use Rattle.calls.specs.Calls.Call.{begin, ask, report, edit, commit, recover, recoverRetained, refresh, stamp, check}
-use Rattle.calls.specs.Calls.AnyCall.{opens, calls}
-use Rattle.calls.specs.Kinds.{kindOf, kindOfAny, writtenAs}
-use Rattle.noting.specs.Recorded.{withLog}
-use Rattle.demand_refusals.specs.Rows.{Row, _when_, given, among}
-use Rattle.demand_refusals.specs.Refusals.{gateRows, rows, numbersOf}
+use Rattle.log.specs.Kinds.{asks, reports}
+use Rattle.calls.specs.Calls.{Call, AnyCall, stepWith, stepOf}
+use Rattle.calls.specs.Kinds.{noKind, kindOf, kindOfAny, writtenAs}
+use Rattle.calls.proofs.Written.{turns}
+use Rattle.demand_refusals.specs.Rows.{among}
+use Rattle.demand_refusals.specs.Refusals.{numbersOf}
 use Rattle.demand_refusals.specs.Through.{entered}
 use Rattle.demand_refusals.proofs.OneRow.{unlisted}
-use Rattle.demand_refusals.proofs.ExactRefusals.{exact-refusals, listed-answer}
+use Rattle.demand_refusals.proofs.Refusals.{spoken}
+use Rattle.demand_refusals.proofs.ExactRefusals.{listed-answer}
 
-refused-call : (n : ℕ) → refused n ≡ true → callWritten n ≡ false
-refused-call n h = let p = both h in ne-eqb n 0 (λ e. omega tests)
+-- of what asks and reports are refused, 4 and 5 are written, and of what other calls are, nothing
+refused-step : (c : Class) → refused c ≡ true → stepWritten c ≡ eqb (numberOf c) 4 or eqb (numberOf c) 5
+unfolding Classes.entered
+refused-step performed h = never (sym h)
+refused-step (refusal why) h = refl
+refused-step (stepping s) h = never (sym h)
 
-or-false : (b : Bool) → b or false ≡ b
+refused-call : (c : Class) → refused c ≡ true → callWritten c ≡ false
+refused-call performed h = never (sym h)
+refused-call (refusal why) h = refl
+refused-call (stepping s) h = never (sym h)
+
+-- by the kind: whether there is none, whether it is an ask's, whether it is a report's; w whether the answer is 4 or 5
+by-kind : (none ask report w : Bool) → (none ≡ true → ask ≡ false) → (report ≡ true → w ≡ false)
+    → pick none false (pick (ask or report) w false) ≡ ask and w
+unfolding pick _and_ _or_
+by-kind true true report w e q = never (e refl)
+by-kind true false report w e q = refl
+by-kind false true report w e q = refl
+by-kind false false true w e q = q refl
+by-kind false false false w e q = refl
+
+no-ask : (k : ℕ) → eqb k noKind ≡ true → asks k ≡ false
 unfolding _or_
-or-false true = refl
-or-false false = refl
+no-ask k e = ap asks (eqb-true k noKind e)
 
--- of what asks and reports are refused, 4 and 5 are written
-refused-step : (n : ℕ) → refused n ≡ true → stepWritten n ≡ eqb n 4 or eqb n 5
-refused-step n h = let p = both h in ap (λ (b : Bool). eqb n 4 or eqb n 5 or b) (no-left (leb n 24) (lt-leb 20 n (omega tests))) ∙ or-false _
+-- a number that is listed is neither of two that are not, where the test r holds
+neither-of : (n a b : ℕ) (ns : List ℕ) (r : Bool) → among n ns ≡ true → (among a ns or among b ns) and r ≡ false → r ≡ true
+    → eqb n a or eqb n b ≡ false
+unfolding _and_ _or_
+neither-of n a b ns r l q h =
+    let p = neither (and-true _ ∙ rw h at q) in
+    simp (unlisted n a ns l (p .0), unlisted n b ns l (p .1))
 
--- nor is what it is refused written, where it answers neither 4 nor 5
-refused-report : (n : ℕ) (ns : List ℕ) → refused n ≡ true → among n ns ≡ true → among 4 ns ≡ false → among 5 ns ≡ false → stepWritten n ≡ false
-unfolding _or_
-refused-report n ns h l p q = refused-step n h ∙ simp (unlisted n 4 ns l p, unlisted n 5 ns l q)
+-- a refusal is written exactly if it is an ask's 4 or 5
+pub noted : (sized sound : Bool) (r : Record) (c : AnyCall) → refused (stepOf sized sound r c .class) ≡ true
+    → writtenAs (kindOfAny c) (stepOf sized sound r c .class) ≡ entered (kindOfAny c) (stepOf sized sound r c .number)
+unfolding writtenAs entered
+noted sized sound r c h =
+    let t = stepOf sized sound r c in
+    let s = spoken sized sound r c in
+    let k = kindOfAny c in
+    let w : stepWritten (t .class) ≡ eqb (t .number) 4 or eqb (t .number) 5 = rw (s .0 .named) (refused-step (t .class) h) in
+    rw (w, refused-call (t .class) h)
+    (by-kind (eqb k noKind) (asks k) (reports k) _ (no-ask k) (neither-of _ 4 5 (numbersOf c) (reports k) (listed-answer sized sound r c) (s .2)))
 
--- behind 6 and 7 the tests of both have failed
-behind-gate : (a b : Bool) (rest : List Row) (n : ℕ) → given (6 when a ∷ 7 when b ∷ rest) n ≡ true → eqb 6 n ≡ false → eqb 7 n ≡ false → b ≡ false
-unfolding given pick
-behind-gate true b rest n h p q = never (sym h ∙ p)
-behind-gate false true rest n h p q = never (sym h ∙ q)
-behind-gate false false rest n h p q = refl
+-- a call of no kind is not written
+pub no-kind : (k : ℕ) (c : Class) → eqb k noKind ≡ true → writtenAs k c ≡ false
+unfolding writtenAs
+no-kind k c e = sym (yes _ e refl)
 
--- a refusal of number n is written exactly if it is an ask's 4 or 5, and then the head is sound
-pub record Noted (log : List ℕ) (k n : ℕ) : Type 0 where
-  pub exactly : writtenAs k n ≡ entered k n
-  pub clean : entered k n ≡ true → sound log ≡ true
-
--- 4 and 5 are neither 6 nor 7
-neither-gate : (n : ℕ) → eqb n 4 or eqb n 5 ≡ true → (eqb 6 n ≡ false) × (eqb 7 n ≡ false)
-neither-gate n e =
-    let p : n ≤ 5 = either e (λ x. omega tests) (λ x. omega tests) in (ne-eqb 6 n (λ y. omega tests), ne-eqb 7 n (λ y. omega tests))
-
-module _ (r : Record) (log : List ℕ) (fits : Bool) where
-  abbrev number : AnyCall → ℕ
-  number c = stepOf (withLog fits log .sized) (sound log) r c .number
-
-  abbrev rowsOf : AnyCall → List Row
-  rowsOf c = rows (withLog fits log .sized) (sound log) r c
-
-  abbrev Says : AnyCall → Type 0
-  Says c = refused (number c) ≡ true → Noted log (kindOfAny c) (number c)
-
-  -- a call that is no ask, of which no refusal is written
-  other-noted : (c : AnyCall) → (refused (number c) ≡ true → writtenAs (kindOfAny c) (number c) ≡ false) → asks (kindOfAny c) ≡ false → Says c
-  unfolding entered
-  other-noted c w a h = let z : entered (kindOfAny c) (number c) ≡ false = no-left _ a in record { exactly = w h ∙ sym z; clean = λ e. never (sym e ∙ z) }
-
-  -- a report, which answers neither 4 nor 5
-  report-unwritten : (c : AnyCall) → among 4 (numbersOf c) ≡ false → among 5 (numbersOf c) ≡ false → refused (number c) ≡ true → stepWritten (number c) ≡ false
-  report-unwritten c p q h = refused-report (number c) _ h (listed-answer _ _ r c) p q
-
-  -- an ask, which answers 4 and 5 only behind the gate
-  ask-noted : (c : AnyCall) {rest : List Row} → writtenAs (kindOfAny c) (number c) ≡ stepWritten (number c) → asks (kindOfAny c) ≡ true
-      → rowsOf c ≡ gateRows (withLog fits log .sized) (sound log) r rest → Says c
-  unfolding entered _and_
-  ask-noted c w a e h =
-      let g = sym (ap (λ (rs : List Row). given rs (number c)) e) ∙ sym (exact-refusals _ _ r c (number c)) ∙ eq-eqb (number c) (number c) refl in
-      let z : entered (kindOfAny c) (number c) ≡ eqb (number c) 4 or eqb (number c) 5 = simp a in
-      record {
-        exactly = w ∙ refused-step (number c) h ∙ sym z;
-        clean = λ f. let k = neither-gate (number c) (sym z ∙ f) in both (not-false _ (behind-gate _ _ _ (number c) g (k .0) (k .1))) .0;
-      }
-
-  pub noted : (c : AnyCall) → Says c
-  unfolding kindOf writtenAs numbersOf among pick _and_ _or_ rows
-  noted (opens v s n) = other-noted (opens v s n) (λ h. refl) refl
-  noted (calls (begin true c o n)) = other-noted (calls (begin true c o n)) (refused-call _) refl
-  noted (calls (begin false c o n)) = other-noted (calls (begin false c o n)) (refused-call _) refl
-  noted (calls (ask structure)) = ask-noted (calls (ask structure)) refl refl refl
-  noted (calls (ask update)) = ask-noted (calls (ask update)) refl refl refl
-  noted (calls (ask rollback)) = ask-noted (calls (ask rollback)) refl refl refl
-  noted (calls (report (structured c o) t x)) = other-noted (calls (report (structured c o) t x)) (report-unwritten (calls (report (structured c o) t x)) refl refl) refl
-  noted (calls (report updated t x)) = other-noted (calls (report updated t x)) (report-unwritten (calls (report updated t x)) refl refl) refl
-  noted (calls (report rolledBack t x)) = other-noted (calls (report rolledBack t x)) (report-unwritten (calls (report rolledBack t x)) refl refl) refl
-  noted (calls (edit c o)) = other-noted (calls (edit c o)) (λ h. refl) refl
-  noted (calls commit) = other-noted (calls commit) (refused-call _) refl
-  noted (calls (recover n)) = other-noted (calls (recover n)) (refused-call _) refl
-  noted (calls recoverRetained) = other-noted (calls recoverRetained) (refused-call _) refl
-  noted (calls (refresh n)) = other-noted (calls (refresh n)) (refused-call _) refl
-  noted (calls (stamp d)) = other-noted (calls (stamp d)) (λ h. refl) refl
-  noted (calls (check d e v)) = other-noted (calls (check d e v)) (λ h. refl) refl
+-- what is written is written on a sound head
+pub written-sound : (sized sound : Bool) (r : Record) (c : Call) → writtenAs (kindOf c) (stepWith sized sound r c .class) ≡ true → sound ≡ true
+written-sound sized sound r c w = turns r c (test _ (λ e. never (sym w ∙ no-kind _ _ e)) (λ e. e)) sized sound .lent w .1

@@ -12,6 +12,7 @@ use Rattle.record.specs.Fields.{top}
 use Rattle.record.specs.Live.{isLive}
 use Rattle.record.specs.Live as Tickets
 use Rattle.record.specs.declared.Record.{Record}
+use Rattle.record.specs.declared.Beginning.{Beginning}
 use Rattle.record.specs.declared.Outcome.{Outcome}
 use Rattle.record.specs.declared.Outcome.the-variants as O
 use Rattle.wholeness.specs.Whole.{whole, complete}
@@ -22,12 +23,12 @@ use Rattle.calls.specs.Calls.Work.{structure, update, rollback}
 use Rattle.calls.specs.Calls.Report.{structured, updated, rolledBack}
 use Rattle.calls.specs.Calls.Call.{begin, ask, report, edit, commit, recover, recoverRetained, refresh, stamp, check}
 use Rattle.calls.specs.Lending.{unopened}
-use Rattle.demand_refusals.specs.Rows.{Row, _when_, otherwise}
+use Rattle.demand_refusals.specs.Rows.{Row, _when_, otherwise, numbers}
 
 -- the record that a refusal returns: "equal (a refused opening, which is given none, returns the one document 01 names)", which is
 -- "the record of an opening at 0, 0 with an empty payload"
 unfoldable pub returned : Record → AnyCall → Record
-returned r (opens revision serial accepted) = unopened
+returned r (opens given accepted) = unopened
 returned r (calls c) = r
 
 abbrev pub phaseIs : ℕ → Record → Bool
@@ -48,9 +49,23 @@ failed O.Done = false
 abbrev pub gateRows : Bool → Bool → Record → List Row → List Row
 gateRows sized sound r own = 6 when not sized ∷ 7 when not (sound and whole r) ∷ own
 
+-- 8: "a payload over 4,096": of the candidate and the recovery payload, and of a snapshot
+abbrev pub payloadRows : ℕ → ℕ → List Row → List Row
+payloadRows candidate recovery next = 8 when (long candidate or long recovery) ∷ next
+
+abbrev pub snapshotRows : ℕ → List Row → List Row
+snapshotRows length next = 8 when long length ∷ next
+
+-- the call is performed
+abbrev pub doneRows : List Row
+doneRows = 0 when otherwise ∷ []
+
 -- "Begin, begin structural: 1, 3, 8, 9."; 1: "while staged"; 3: "at revision 18446744073709551615"; 9: "over 64 actions"
-abbrev pub beginRows : Record → ℕ → ℕ → ℕ → List Row
-beginRows r c o n = 1 when r .staged ∷ 3 when eqb (r .revision) top ∷ 8 when (long c or long o) ∷ 9 when ltb limit n ∷ 0 when otherwise ∷ []
+abbrev pub beginRows : Record → Beginning → List Row
+beginRows r b =
+    1 when r .staged
+    ∷ 3 when eqb (r .revision) top
+    ∷ payloadRows (b .candidate) (b .recovery) (9 when ltb limit (b .actions) ∷ doneRows)
 
 -- "2; 4 if entries > 0 or phase not 0 or 13"; 2: "while not staged"
 abbrev pub recoverRows : Record → List Row → List Row
@@ -62,8 +77,8 @@ reportRows outcome last = 21 when waiting outcome ∷ 22 when failed outcome ∷
 
 unfoldable pub rows : Bool → Bool → Record → AnyCall → List Row
 -- "Open ..: Refuses 6, 8"
-rows sized sound r (opens revision serial accepted) = 6 when not sized ∷ 8 when long accepted ∷ 0 when otherwise ∷ []
-rows sized sound r (calls (begin structural c o n)) = gateRows sized sound r (beginRows r c o n)
+rows sized sound r (opens given accepted) = 6 when not sized ∷ snapshotRows accepted doneRows
+rows sized sound r (calls (begin structural b)) = gateRows sized sound r (beginRows r b)
 -- "phases 0, 5, 8 give 4; 7 and 13 give Finished; else 11, or a ticket"
 rows sized sound r (calls (ask structure)) =
     gateRows sized sound r
@@ -83,7 +98,7 @@ rows sized sound r (calls (ask rollback)) =
 -- "Report structure (both payloads): 10, 8. Done goes to the successor .. and answers Finished at a boundary, else More."
 rows sized sound r (calls (report (structured c o) t x)) =
     gateRows sized sound r
-    (10 when not (isLive Tickets.structure t (r .live)) ∷ 8 when (long c or long o) ∷ reportRows x (boundary (r .phase .number + 1)))
+    (10 when not (isLive Tickets.structure t (r .live)) ∷ payloadRows c o (reportRows x (boundary (r .phase .number + 1))))
 -- "Report update ..: 10. Done raises applied; at the last Finished, .. else More."
 rows sized sound r (calls (report updated t x)) =
     gateRows sized sound r (10 when not (isLive Tickets.update t (r .live)) ∷ reportRows x (eqb (r .applied + 1) (r .entries)))
@@ -91,36 +106,22 @@ rows sized sound r (calls (report updated t x)) =
 rows sized sound r (calls (report rolledBack t x)) =
     gateRows sized sound r (10 when not (isLive Tickets.rollback t (r .live)) ∷ reportRows x (eqb (r .entries - 1) 0))
 -- "Edit replaces both payloads: 2, 8."
-rows sized sound r (calls (edit c o)) = gateRows sized sound r (2 when not (r .staged) ∷ 8 when (long c or long o) ∷ 0 when otherwise ∷ [])
+rows sized sound r (calls (edit c o)) = gateRows sized sound r (2 when not (r .staged) ∷ payloadRows c o doneRows)
 -- "Commit: 2; 4 if not complete or phase not 0 or 7."
 rows sized sound r (calls commit) =
-    gateRows sized sound r
-    (2 when not (r .staged) ∷ 4 when (not (complete r) or not (phaseIs 0 r or phaseIs 7 r)) ∷ 0 when otherwise ∷ [])
+    gateRows sized sound r (2 when not (r .staged) ∷ 4 when (not (complete r) or not (phaseIs 0 r or phaseIs 7 r)) ∷ doneRows)
 -- "Recover ..: 2; 4 ..; 8."
-rows sized sound r (calls (recover n)) = gateRows sized sound r (recoverRows r (8 when long n ∷ 0 when otherwise ∷ []))
+rows sized sound r (calls (recover n)) = gateRows sized sound r (recoverRows r (snapshotRows n doneRows))
 -- "Recover from the retained payload: 2, 4 alike"
-rows sized sound r (calls recoverRetained) = gateRows sized sound r (recoverRows r (0 when otherwise ∷ []))
+rows sized sound r (calls recoverRetained) = gateRows sized sound r (recoverRows r doneRows)
 -- "Refresh: 1, 8"
-rows sized sound r (calls (refresh n)) = gateRows sized sound r (1 when r .staged ∷ 8 when long n ∷ 0 when otherwise ∷ [])
+rows sized sound r (calls (refresh n)) = gateRows sized sound r (1 when r .staged ∷ snapshotRows n doneRows)
 -- "Stamp .., refused 1"; nothing is lent, so that there is no 6
-rows sized sound r (calls (stamp domain)) = 7 when not (whole r) ∷ 1 when r .staged ∷ 0 when otherwise ∷ []
+rows sized sound r (calls (stamp domain)) = 7 when not (whole r) ∷ 1 when r .staged ∷ doneRows
 -- "checking a stamp answers yes, no or 7"
-rows sized sound r (calls (check domain d v)) = 7 when not (whole r) ∷ 0 when otherwise ∷ []
+rows sized sound r (calls (check domain s)) = 7 when not (whole r) ∷ doneRows
 
--- the numbers that document 01 lists for each call, as they stand in its rows
+-- the numbers that document 01 lists for each call: those of its rows, which are the same for every record
 unfoldable pub numbersOf : AnyCall → List ℕ
-numbersOf (opens revision serial accepted) = 6 ∷ 8 ∷ 0 ∷ []
-numbersOf (calls (begin structural c o n)) = 6 ∷ 7 ∷ 1 ∷ 3 ∷ 8 ∷ 9 ∷ 0 ∷ []
-numbersOf (calls (ask structure)) = 6 ∷ 7 ∷ 4 ∷ 24 ∷ 11 ∷ 20 ∷ []
-numbersOf (calls (ask update)) = 6 ∷ 7 ∷ 5 ∷ 24 ∷ 11 ∷ 20 ∷ []
-numbersOf (calls (ask rollback)) = 6 ∷ 7 ∷ 11 ∷ 24 ∷ 20 ∷ []
-numbersOf (calls (report (structured c o) t x)) = 6 ∷ 7 ∷ 10 ∷ 8 ∷ 21 ∷ 22 ∷ 24 ∷ 23 ∷ []
-numbersOf (calls (report updated t x)) = 6 ∷ 7 ∷ 10 ∷ 21 ∷ 22 ∷ 24 ∷ 23 ∷ []
-numbersOf (calls (report rolledBack t x)) = 6 ∷ 7 ∷ 10 ∷ 21 ∷ 22 ∷ 24 ∷ 23 ∷ []
-numbersOf (calls (edit c o)) = 6 ∷ 7 ∷ 2 ∷ 8 ∷ 0 ∷ []
-numbersOf (calls commit) = 6 ∷ 7 ∷ 2 ∷ 4 ∷ 0 ∷ []
-numbersOf (calls (recover n)) = 6 ∷ 7 ∷ 2 ∷ 4 ∷ 8 ∷ 0 ∷ []
-numbersOf (calls recoverRetained) = 6 ∷ 7 ∷ 2 ∷ 4 ∷ 0 ∷ []
-numbersOf (calls (refresh n)) = 6 ∷ 7 ∷ 1 ∷ 8 ∷ 0 ∷ []
-numbersOf (calls (stamp domain)) = 7 ∷ 1 ∷ 0 ∷ []
-numbersOf (calls (check domain d v)) = 7 ∷ 0 ∷ []
+unfolding rows
+numbersOf c = numbers (rows true true unopened c)

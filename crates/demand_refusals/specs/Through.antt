@@ -2,13 +2,13 @@
 use Prim.Native.Nat.{ℕ}
 use mathlib.Core.Bool.{Bool, true}
 use mathlib.Core.List.{List, _∷_}
-use lib.Dec.{eqb, ltb}
+use lib.Dec.{eqb}
 use Rattle.choice.specs.Pick.{pick, _and_, _or_}
 use Rattle.record.specs.declared.Record.{Record}
 use Rattle.log.specs.Log.{full, event}
 use Rattle.log.specs.Kinds.{asks}
 use Rattle.calls.specs.Lending.{Lending, callOf, fits}
-use Rattle.calls.specs.Kinds.{kind, writtenAs}
+use Rattle.calls.specs.Kinds.{noKind, kind, writtenAs}
 use Rattle.noting.specs.Recorded.{withLog}
 use Rattle.noting.specs.Through.{inner}
 use Rattle.demand_refusals.specs.Rows.{given}
@@ -22,7 +22,7 @@ givenThrough r log c n =
 
 -- 12 besides, where the call has a kind
 unfoldable pub numbersThrough : Lending true → List ℕ
-numbersThrough c = pick (ltb 0 (kind c)) (12 ∷ numbersOf (callOf c)) (numbersOf (callOf c))
+numbersThrough c = pick (eqb (kind c) noKind) (numbersOf (callOf c)) (12 ∷ numbersOf (callOf c))
 
 -- "the log entry of an ask answered 4 or 5"
 unfoldable pub entered : ℕ → ℕ → Bool

@@ -36,19 +36,14 @@ pub(crate) enum Whole {
 
 // Calls of the transaction, with a log or without.
 pub(crate) enum Calling {
-    Bring(Bringing),
-    Ask(Work),
-    Report(Work),
-    Exchange(Exchanging),
-}
-
-// Calls that bring payloads.
-pub(crate) enum Bringing {
     Open,
     Begin,
     BeginStructural,
     Edit,
     ReportStructure,
+    Ask(Work),
+    Report(Work),
+    Exchange(Exchanging),
 }
 
 // The work that a ticket is for.
@@ -89,11 +84,11 @@ fn by_place(place: usize) -> Command {
         4 => Command::Plain(Plain::Record),
         5 => Command::Plain(Plain::Stamp),
         6 => Command::Plain(Plain::Check),
-        7 => Command::Call(Calling::Bring(Bringing::Open)),
-        8 => Command::Call(Calling::Bring(Bringing::Begin)),
-        9 => Command::Call(Calling::Bring(Bringing::BeginStructural)),
-        10 => Command::Call(Calling::Bring(Bringing::Edit)),
-        11 => Command::Call(Calling::Bring(Bringing::ReportStructure)),
+        7 => Command::Call(Calling::Open),
+        8 => Command::Call(Calling::Begin),
+        9 => Command::Call(Calling::BeginStructural),
+        10 => Command::Call(Calling::Edit),
+        11 => Command::Call(Calling::ReportStructure),
         12 => Command::Call(Calling::Ask(Work::Structure)),
         13 => Command::Call(Calling::Ask(Work::Update)),
         14 => Command::Call(Calling::Ask(Work::Rollback)),

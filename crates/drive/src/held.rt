@@ -1,43 +1,58 @@
-// What the driver holds: how much of it, which part of it is lent, and the payloads and words that a script names.
-use super::AREA;
-use super::LOG;
-use super::MARKS;
-use super::TABLE;
+// What the driver holds: its areas, how many elements it has of each and how many of them are lent, and the payloads and words that a
+// script names.
+use super::AREA_HELD;
+use super::LOG_HELD;
+use super::MARKS_HELD;
+use super::TABLE_HELD;
+use transaction::AREA;
+use transaction::TABLE;
 
-// How many elements are lent of each area.
-pub(crate) struct Lent {
-    pub(crate) accepted: usize,
-    pub(crate) candidate: usize,
-    pub(crate) recovery: usize,
-    pub(crate) exchange: usize,
-    pub(crate) table: usize,
-    pub(crate) log: usize,
-    pub(crate) groups: usize,
-    pub(crate) status: usize,
-}
+// The areas, by their places among the letters a, c, r, x, t, l, g and s.
+pub(crate) const ACCEPTED: usize = 0;
+
+pub(crate) const CANDIDATE: usize = 1;
+
+pub(crate) const RECOVERY: usize = 2;
+
+pub(crate) const EXCHANGE: usize = 3;
+
+pub(crate) const ACTIONS: usize = 4;
+
+pub(crate) const LOG: usize = 5;
+
+pub(crate) const GROUPS: usize = 6;
+
+pub(crate) const STATUS: usize = 7;
+
+const AREAS: usize = 8;
+
+// How many bytes of the groups and of the status are lent at the start.
+const MARKS: usize = 64;
+
+// How many elements of each area are lent.
+pub(crate) type Counts = [usize; AREAS];
 
 // What is lent at the start: areas and a table of the sizes that calls ask for, and no log.
-pub(crate) fn lent_first() -> Lent {
-    Lent {
-        accepted: 4096,
-        candidate: 4096,
-        recovery: 4096,
-        exchange: 4096,
-        table: 128,
-        log: 0,
-        groups: 64,
-        status: 64,
+pub(crate) fn lent_first() -> Counts {
+    [AREA, AREA, AREA, AREA, TABLE, 0, MARKS, MARKS]
+}
+
+// How many elements the driver holds of an area.
+pub(crate) fn size(area: usize) -> usize {
+    match area {
+        ACCEPTED..=EXCHANGE => AREA_HELD,
+        ACTIONS => TABLE_HELD,
+        LOG => LOG_HELD,
+        _ => MARKS_HELD,
     }
 }
 
-// How many elements the driver holds of an area, by its place among the letters a, c, r, x, t, l, g and s.
-pub(crate) fn size(area: u64) -> u64 {
-    match area {
-        0..=3 => AREA as u64,
-        4 => TABLE as u64,
-        5 => LOG as u64,
-        _ => MARKS as u64,
+// The same counts but for one area.
+pub(crate) fn lending(mut lent: Counts, area: usize, count: usize) -> Counts {
+    if area < AREAS {
+        lent[area] = count;
     }
+    lent
 }
 
 // The first n bytes, or all where there are fewer.
@@ -100,4 +115,16 @@ pub(crate) fn fill_words(words: &mut [u64], count: u64, seed: u64) {
         words[i] = std::num::wrapping_add_u64(seed, i as u64);
         i += 1;
     }
+}
+
+// The payload of this length and seed, written to the start of `bytes`.
+pub(crate) fn payload(bytes: &mut [u8], length: u64, seed: u64) -> &[u8] {
+    fill(bytes, length, seed);
+    front(bytes, length as usize)
+}
+
+// The words of this count and seed, written to the start of `words`.
+pub(crate) fn words_of(words: &mut [u64], count: u64, seed: u64) -> &[u64] {
+    fill_words(words, count, seed);
+    front_of_words(words, count as usize)
 }

@@ -16,14 +16,15 @@ mod whole;
 use libc::STDERR_FILENO;
 use libc::STDOUT_FILENO;
 
-// How many bytes of each area, words of the table and of the log, and bytes of the groups and of the status the driver holds.
-const AREA: usize = 5000;
+// How many bytes of each area, words of the table and of the log, and bytes of the groups and of the status the driver holds. It holds
+// more than any call asks for, so that a script can lend too much.
+const AREA_HELD: usize = 5000;
 
-const TABLE: usize = 2200;
+const TABLE_HELD: usize = 2200;
 
-const LOG: usize = 5000;
+const LOG_HELD: usize = 5000;
 
-const MARKS: usize = 300;
+const MARKS_HELD: usize = 300;
 
 // The most numbers that a command has: those of a record.
 const NUMBERS: usize = rows::FIELDS;

@@ -2,10 +2,8 @@
 // What does not fit any more is left out; `flush_before` makes room for the longest answer first.
 use super::answers::After;
 use super::answers::Digests;
-use super::answers::Numbers;
 use super::answers::Told;
 use super::held::front;
-use super::held::front_of_words;
 use libc::STDOUT_FILENO;
 use record::Record;
 
@@ -75,11 +73,6 @@ fn put_line(buffer: &mut [u8], written: usize, word: &[u8], numbers: &[u64]) -> 
     put_byte(buffer, at, b'\n')
 }
 
-fn put_numbers(buffer: &mut [u8], written: usize, told: Numbers) -> usize {
-    let numbers = [told.first, told.second, told.third, told.fourth];
-    put_line(buffer, written, b"", front_of_words(&numbers, told.count))
-}
-
 fn put_shown(buffer: &mut [u8], written: usize, record: Record, d: Digests) -> usize {
     let numbers = rows::numbers(record);
     let at = put_line(buffer, written, b"record", &numbers);
@@ -97,7 +90,10 @@ pub(crate) fn put_told(buffer: &mut [u8], written: usize, after: After, line: u6
     match told {
         Told::Nothing => written,
         Told::Bad => put_line(buffer, written, b"?", &[line]),
-        Told::Numbers(numbers) => put_numbers(buffer, written, numbers),
+        Told::One(a) => put_line(buffer, written, b"", &[a]),
+        Told::Two(a, b) => put_line(buffer, written, b"", &[a, b]),
+        Told::Three(a, b, c) => put_line(buffer, written, b"", &[a, b, c]),
+        Told::Four(a, b, c, d) => put_line(buffer, written, b"", &[a, b, c, d]),
         Told::Shown(digests) => put_shown(buffer, written, record, digests),
     }
 }

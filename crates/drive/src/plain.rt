@@ -6,45 +6,32 @@ use super::answers::after_check;
 use super::answers::after_stamp;
 use super::answers::leaving;
 use super::commands::Plain;
-use super::held::Lent;
+use super::held::Counts;
+use super::held::lending;
 use super::held::size;
 use record::Record;
 use rows::Row;
 use step_stamps::SaveStamp;
 
-fn lending(mut lent: Lent, area: u64, count: usize) -> Lent {
-    match area {
-        0 => lent.accepted = count,
-        1 => lent.candidate = count,
-        2 => lent.recovery = count,
-        3 => lent.exchange = count,
-        4 => lent.table = count,
-        5 => lent.log = count,
-        6 => lent.groups = count,
-        _ => lent.status = count,
-    }
-    lent
-}
-
 // `lend`: from here on the first elements of an area are lent.
-fn lend(record: Record, lent: Lent, numbers: [u64; NUMBERS]) -> After {
-    let area = numbers[0];
-    let count = numbers[1];
+fn lend(record: Record, lent: Counts, numbers: [u64; NUMBERS]) -> After {
+    let area = numbers[0] as usize;
+    let count = numbers[1] as usize;
     if size(area) < count {
         return leaving(record, lent, Told::Bad);
     }
-    leaving(record, lending(lent, area, count as usize), Told::Nothing)
+    leaving(record, lending(lent, area, count), Told::Nothing)
 }
 
 // `record`: the record becomes the one of these numbers, where they are one.
-fn set_record(record: Record, lent: Lent, numbers: [u64; NUMBERS]) -> After {
+fn set_record(record: Record, lent: Counts, numbers: [u64; NUMBERS]) -> After {
     match rows::record_of(numbers) {
         Row::Fits(given) => leaving(given, lent, Told::Nothing),
         Row::Misfit => leaving(record, lent, Told::Bad),
     }
 }
 
-fn check(record: Record, lent: Lent, numbers: [u64; NUMBERS]) -> After {
+fn check(record: Record, lent: Counts, numbers: [u64; NUMBERS]) -> After {
     let stamp = SaveStamp {
         domain: numbers[1],
         revision: numbers[2],
@@ -52,7 +39,12 @@ fn check(record: Record, lent: Lent, numbers: [u64; NUMBERS]) -> After {
     after_check(record, lent, transaction::check(record, numbers[0], stamp))
 }
 
-pub(crate) fn perform(which: Plain, record: Record, lent: Lent, numbers: [u64; NUMBERS]) -> After {
+pub(crate) fn perform(
+    which: Plain,
+    record: Record,
+    lent: Counts,
+    numbers: [u64; NUMBERS],
+) -> After {
     match which {
         Plain::Nothing => leaving(record, lent, Told::Nothing),
         Plain::Bad => leaving(record, lent, Told::Bad),

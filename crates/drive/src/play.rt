@@ -1,19 +1,28 @@
 // Playing a script: what the driver holds, line after line, and what each command is lent of it.
-use super::AREA;
-use super::LOG;
-use super::MARKS;
+use super::AREA_HELD;
+use super::LOG_HELD;
+use super::MARKS_HELD;
 use super::NUMBERS;
-use super::TABLE;
+use super::TABLE_HELD;
 use super::answers::After;
 use super::answers::Told;
 use super::answers::after_call;
 use super::answers::after_mark;
 use super::answers::leaving;
-use super::bring::bring;
+use super::bring::begin;
+use super::bring::edit;
+use super::bring::open;
+use super::bring::report_structure;
 use super::commands::Calling;
 use super::commands::Command;
 use super::commands::Line;
-use super::held::Lent;
+use super::held::ACCEPTED;
+use super::held::ACTIONS;
+use super::held::CANDIDATE;
+use super::held::Counts;
+use super::held::EXCHANGE;
+use super::held::LOG;
+use super::held::RECOVERY;
 use super::held::lent_first;
 use super::held::part;
 use super::held::part_of_words;
@@ -44,7 +53,7 @@ fn first_record() -> Record {
 fn call(
     which: Calling,
     record: Record,
-    lent: Lent,
+    lent: Counts,
     numbers: [u64; NUMBERS],
     a: &mut [u8],
     c: &mut [u8],
@@ -53,14 +62,18 @@ fn call(
     t: &mut [u64],
     l: &mut [u64],
 ) -> Stepped {
-    let l = part_of_words(l, lent.log);
-    let a = part(a, lent.accepted);
-    let c = part(c, lent.candidate);
-    let r = part(r, lent.recovery);
-    let x = part(x, lent.exchange);
-    let t = part_of_words(t, lent.table);
+    let l = part_of_words(l, lent[LOG]);
+    let a = part(a, lent[ACCEPTED]);
+    let c = part(c, lent[CANDIDATE]);
+    let r = part(r, lent[RECOVERY]);
+    let x = part(x, lent[EXCHANGE]);
+    let t = part_of_words(t, lent[ACTIONS]);
     match which {
-        Calling::Bring(which) => bring(which, record, numbers, l, a, c, r, t),
+        Calling::Open => open(numbers, l, a),
+        Calling::Begin => begin(false, record, numbers, l, c, r, t),
+        Calling::BeginStructural => begin(true, record, numbers, l, c, r, t),
+        Calling::Edit => edit(record, numbers, c, r),
+        Calling::ReportStructure => report_structure(record, numbers, l, c, r),
         Calling::Ask(which) => ask(which, record, l),
         Calling::Report(which) => report(which, record, numbers, l, t),
         Calling::Exchange(which) => exchange(which, record, numbers[0] as usize, l, a, c, r, x),
@@ -71,14 +84,14 @@ fn call(
 fn perform(
     line: Line,
     before: After,
-    a: &mut [u8],
-    c: &mut [u8],
-    r: &mut [u8],
-    x: &mut [u8],
-    t: &mut [u64],
-    l: &mut [u64],
-    g: &mut [u8],
-    s: &mut [u8],
+    a: &mut [u8; AREA_HELD],
+    c: &mut [u8; AREA_HELD],
+    r: &mut [u8; AREA_HELD],
+    x: &mut [u8; AREA_HELD],
+    t: &mut [u64; TABLE_HELD],
+    l: &mut [u64; LOG_HELD],
+    g: &mut [u8; MARKS_HELD],
+    s: &mut [u8; MARKS_HELD],
 ) -> After {
     let record = before.record;
     let lent = before.lent;
@@ -87,7 +100,8 @@ fn perform(
     match command {
         Command::Plain(which) => plain::perform(which, record, lent, numbers),
         Command::Whole(which) => {
-            whole::perform(which, record, lent, numbers, a, c, r, x, t, l, g, s)
+            let told = whole::perform(which, numbers, a, c, r, x, t, l, g, s);
+            leaving(record, lent, told)
         }
         Command::Call(which) => {
             after_call(call(which, record, lent, numbers, a, c, r, x, t, l), lent)
@@ -97,26 +111,25 @@ fn perform(
 }
 
 // Line after line, until the input ends.
-fn play_lines(
-    a: &mut [u8],
-    c: &mut [u8],
-    r: &mut [u8],
-    x: &mut [u8],
-    t: &mut [u64],
-    l: &mut [u64],
-    g: &mut [u8],
-    s: &mut [u8],
-    chunk: &mut [u8],
-    buffer: &mut [u8],
-) {
+pub(crate) fn play() {
+    let a = &mut [0u8; AREA_HELD];
+    let c = &mut [0u8; AREA_HELD];
+    let r = &mut [0u8; AREA_HELD];
+    let x = &mut [0u8; AREA_HELD];
+    let t = &mut [0u64; TABLE_HELD];
+    let l = &mut [0u64; LOG_HELD];
+    let g = &mut [0u8; MARKS_HELD];
+    let s = &mut [0u8; MARKS_HELD];
+    let mut chunk = io::large_buffer();
+    let mut buffer = io::large_buffer();
     let mut state = leaving(first_record(), lent_first(), Told::Nothing);
     let mut place = input::start();
     let mut written = 0;
     let mut number = 0u64;
     while number < u64::MAX {
         number += 1;
-        written = flush_before(place.at == place.filled, buffer, written);
-        let next = input::next_command(chunk, place);
+        written = flush_before(place.at == place.filled, &buffer, written);
+        let next = input::next_command(&mut chunk, place);
         place = next.place;
         // The end: nothing was left to read, so all that waited has been written out.
         if place.ended & (place.length == 0) {
@@ -124,31 +137,6 @@ fn play_lines(
         }
         let line = next.line;
         state = perform(line, state, a, c, r, x, t, l, g, s);
-        written = put_told(buffer, written, state, number);
+        written = put_told(&mut buffer, written, state, number);
     }
-}
-
-pub(crate) fn play() {
-    let mut accepted = [0u8; AREA];
-    let mut candidate = [0u8; AREA];
-    let mut recovery = [0u8; AREA];
-    let mut exchange = [0u8; AREA];
-    let mut table = [0u64; TABLE];
-    let mut log = [0u64; LOG];
-    let mut groups = [0u8; MARKS];
-    let mut status = [0u8; MARKS];
-    let mut chunk = io::large_buffer();
-    let mut buffer = io::large_buffer();
-    play_lines(
-        &mut accepted,
-        &mut candidate,
-        &mut recovery,
-        &mut exchange,
-        &mut table,
-        &mut log,
-        &mut groups,
-        &mut status,
-        &mut chunk,
-        &mut buffer,
-    );
 }

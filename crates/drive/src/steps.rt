@@ -6,24 +6,22 @@ use super::bring::outcome;
 use super::commands::Exchanging;
 use super::commands::Marking;
 use super::commands::Work;
-use super::held::Lent;
+use super::held::Counts;
+use super::held::GROUPS;
+use super::held::STATUS;
 use super::held::front;
 use super::held::part;
 use record::Record;
 use record::Stepped;
 use status::Marked;
 
-fn ask_itself(which: Work, record: Record) -> Stepped {
-    match which {
-        Work::Structure => transaction::ask_structure(record),
-        Work::Update => transaction::ask_update(record),
-        Work::Rollback => transaction::ask_rollback(record),
-    }
-}
-
 pub(crate) fn ask(which: Work, record: Record, l: &mut [u64]) -> Stepped {
     if l.len() == 0 {
-        return ask_itself(which, record);
+        return match which {
+            Work::Structure => transaction::ask_structure(record),
+            Work::Update => transaction::ask_update(record),
+            Work::Rollback => transaction::ask_rollback(record),
+        };
     }
     match which {
         Work::Structure => recorder::ask_structure(record, l),
@@ -55,23 +53,6 @@ pub(crate) fn report(
     recorder::report_update(record, l, t, ticket, outcome, payload)
 }
 
-fn exchange_itself(
-    which: Exchanging,
-    record: Record,
-    length: usize,
-    a: &mut [u8],
-    c: &mut [u8],
-    r: &mut [u8],
-    x: &mut [u8],
-) -> Stepped {
-    match which {
-        Exchanging::Commit => transaction::commit(record, a, c),
-        Exchanging::Recover => transaction::recover(record, a, x, length),
-        Exchanging::RecoverRetained => { transaction::recover_retained(record, a, r, x) }
-        Exchanging::Refresh => transaction::refresh(record, a, x, length),
-    }
-}
-
 pub(crate) fn exchange(
     which: Exchanging,
     record: Record,
@@ -83,25 +64,30 @@ pub(crate) fn exchange(
     x: &mut [u8],
 ) -> Stepped {
     if l.len() == 0 {
-        return exchange_itself(which, record, length, a, c, r, x);
+        return match which {
+            Exchanging::Commit => transaction::commit(record, a, c),
+            Exchanging::Recover => transaction::recover(record, a, x, length),
+            Exchanging::RecoverRetained => transaction::recover_retained(record, a, r, x),
+            Exchanging::Refresh => transaction::refresh(record, a, x, length),
+        };
     }
     match which {
         Exchanging::Commit => recorder::commit(record, l, a, c),
         Exchanging::Recover => recorder::recover(record, l, a, x, length),
-        Exchanging::RecoverRetained => { recorder::recover_retained(record, l, a, r, x) }
+        Exchanging::RecoverRetained => recorder::recover_retained(record, l, a, r, x),
         Exchanging::Refresh => recorder::refresh(record, l, a, x, length),
     }
 }
 
 pub(crate) fn mark(
     which: Marking,
-    lent: Lent,
+    lent: Counts,
     numbers: [u64; NUMBERS],
     g: &[u8],
     s: &mut [u8],
 ) -> Marked {
-    let g = front(g, lent.groups);
-    let s = part(s, lent.status);
+    let g = front(g, lent[GROUPS]);
+    let s = part(s, lent[STATUS]);
     let id = numbers[0];
     let domain = numbers[1] == 1;
     match which {

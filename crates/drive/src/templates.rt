@@ -1,12 +1,19 @@
 // Reading a line by a template. A capital in a template stands for a number in decimal, and says its range: N any u64, L a payload's
 // length, C a count of words, S a seed, O an outcome, F a flag, K a kind of ticket, U a field of 8 bits, D one of 32. B stands for
 // the letter of an area. Every other byte stands for itself.
-use super::AREA;
+use super::AREA_HELD;
 use super::NUMBERS;
-use super::TABLE;
+use super::TABLE_HELD;
+use super::held;
+use record::Live;
+use rows::TOP8;
+use rows::TOP32;
 
 // The largest seed of a payload or of words.
 const SEED: u64 = 1000000;
+
+// The last kind of a live ticket.
+const KIND: u64 = Live::ROLLBACK as u64;
 
 // What stands at a place of a line, and the place after it.
 enum Read {
@@ -37,14 +44,14 @@ enum Grown {
 // The largest number that may stand where the template has this capital.
 fn most(mark: u8) -> u64 {
     match mark {
-        b'L' => AREA as u64,
-        b'C' => TABLE as u64,
+        b'L' => AREA_HELD as u64,
+        b'C' => TABLE_HELD as u64,
         b'S' => SEED,
         b'O' => 2,
         b'F' => 1,
-        b'K' => 3,
-        b'U' => 255,
-        b'D' => 4294967295,
+        b'K' => KIND,
+        b'U' => TOP8,
+        b'D' => TOP32,
         _ => record::MAX,
     }
 }
@@ -103,18 +110,18 @@ fn number(line: &[u8], from: usize, most: u64) -> Read {
 // The letter of an area, as its place among the letters.
 fn letter(byte: u8, next: usize) -> Read {
     let value = match byte {
-        b'a' => 0,
-        b'c' => 1,
-        b'r' => 2,
-        b'x' => 3,
-        b't' => 4,
-        b'l' => 5,
-        b'g' => 6,
-        b's' => 7,
+        b'a' => held::ACCEPTED,
+        b'c' => held::CANDIDATE,
+        b'r' => held::RECOVERY,
+        b'x' => held::EXCHANGE,
+        b't' => held::ACTIONS,
+        b'l' => held::LOG,
+        b'g' => held::GROUPS,
+        b's' => held::STATUS,
         _ => return Read::Wrong,
     };
     Read::Number {
-        value: value,
+        value: value as u64,
         next: next,
     }
 }

@@ -3,6 +3,13 @@
 use libc::STDOUT_FILENO;
 use record::Opening;
 use record::Record;
+use recorder::EVENT;
+use recorder::HEAD;
+use transaction::AREA;
+use transaction::TABLE;
+
+// The words of a log with room for three events.
+const LOG: usize = HEAD + 3 * EVENT;
 
 fn print_words(words: &[u64]) {
     let n = words.len();
@@ -30,11 +37,11 @@ fn reload(
 }
 
 fn main() {
-    let mut log = [7u64; 16];
-    let mut accepted = [0u8; 4096];
-    let mut candidate = [0u8; 4096];
-    let mut recovery = [0u8; 4096];
-    let mut table = [0u64; 128];
+    let mut log = [7u64; LOG];
+    let mut accepted = [0u8; AREA];
+    let mut candidate = [0u8; AREA];
+    let mut recovery = [0u8; AREA];
+    let mut table = [0u64; TABLE];
     let given = Opening {
         revision: 0,
         serial: 0,

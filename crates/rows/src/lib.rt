@@ -9,9 +9,9 @@ ghost use Rattle.rows.specs.Rows.{numbersOf, inRanges, liveOf, recordOf}
 pub const FIELDS: usize = 15;
 
 // The largest number of 8 bits, and of 32.
-const TOP8: u64 = u8::MAX as u64;
+pub const TOP8: u64 = u8::MAX as u64;
 
-const TOP32: u64 = u32::MAX as u64;
+pub const TOP32: u64 = u32::MAX as u64;
 
 // The first and the last kind of live ticket.
 const NONE: u64 = Live::NONE as u64;

@@ -2,14 +2,14 @@
 -- Assumes nothing.
 use Prim.Native.Nat.{ℕ, _+_, _-_}
 use mathlib.Core.Bool.{Bool, true, not}
-use mathlib.Core.List.{[], _∷_}
+use mathlib.Core.List.{List, [], _∷_}
 use lib.Dec.{eqb, leb, ltb}
 use Rattle.choice.specs.Pick.{pick, _and_, _or_}
 use Rattle.phases.specs.Phases.{none, remove, updates, ready, undo, recoverRemove, recovered}
-use Rattle.record.specs.Fields.{top}
-use Rattle.record.specs.Fields.{withTicket, withPlace, withBatch, spent, adopting}
+use Rattle.record.specs.Live.{number}
+use Rattle.record.specs.Fields.{top, withTicket, withPlace, withBatch, spent, adopting}
 use Rattle.record.specs.Answers.{Told, answer}
-use Rattle.wholeness.specs.Gates.{gateOf, gated, _whenever_, barring}
+use Rattle.wholeness.specs.Gates.{gateOf, gated, Bar, _whenever_, barring}
 use Rattle.record.specs.declared.Record.{Record}
 use Rattle.record.specs.declared.Live.{Live}
 use Rattle.record.specs.declared.Live.the-variants.{Structure, Update, Rollback}
@@ -17,19 +17,29 @@ use Rattle.record.specs.declared.Answer.the-variants.{Ticket, Finished}
 use Rattle.record.specs.declared.Refusal.the-variants.{NotReady, Recovering, Worn}
 
 -- "or a ticket: serial plus one, live. Ticket carries it and the phase or the action's number."
-abbrev pub issue : (ℕ → Live) → ℕ → Record → Told
-issue live item r = answer (Ticket (r .serial + 1) item) (withTicket (r .serial + 1) (live (r .serial + 1)) r)
+abbrev pub ticketed : Live → ℕ → Record → Told
+ticketed live item r = answer (Ticket (number live) item) (withTicket (number live) live r)
 
--- "the serial is at its maximum"
+abbrev pub issue : (ℕ → Live) → ℕ → Record → Told
+issue live item r = ticketed (live (r .serial + 1)) item r
+
+-- "11": "the serial is at its maximum"
 abbrev pub worn : Record → Bool
 worn r = eqb (r .serial) top
 
+abbrev pub wornBars : Record → List Bar
+wornBars r = Worn whenever worn r ∷ []
+
 -- "Ask structure: phases 0, 5, 8 give 4; 7 and 13 give Finished; else 11, or a ticket"
+abbrev pub askStructureBars : Record → List Bar
+askStructureBars r =
+    NotReady whenever (eqb (r .phase .number) none or eqb (r .phase .number) updates or eqb (r .phase .number) undo) ∷ []
+
 unfoldable pub askStructureOwn : Record → Told
 askStructureOwn r =
-    barring (NotReady whenever (eqb (r .phase .number) none or eqb (r .phase .number) updates or eqb (r .phase .number) undo) ∷ []) r
+    barring (askStructureBars r) r
     (pick (eqb (r .phase .number) ready or eqb (r .phase .number) recovered) (answer Finished r)
-    (barring (Worn whenever worn r ∷ []) r
+    (barring (wornBars r) r
     (issue Structure (r .phase .number) r)))
 
 -- "attempted becomes applied + 1"
@@ -38,11 +48,14 @@ started r = withBatch (r .entries) (r .applied) (r .applied + 1) (r .restoring) 
 
 -- "Ask update: phase neither 0 nor 5, or restoring, gives 5; applied = entries gives Finished, and phase 5 becomes 6; else 11,
 -- or a ticket, and attempted becomes applied + 1."
+abbrev pub askUpdateBars : Record → List Bar
+askUpdateBars r = Recovering whenever (not (eqb (r .phase .number) none or eqb (r .phase .number) updates) or r .restoring) ∷ []
+
 unfoldable pub askUpdateOwn : Record → Told
 askUpdateOwn r =
-    barring (Recovering whenever (not (eqb (r .phase .number) none or eqb (r .phase .number) updates) or r .restoring) ∷ []) r
+    barring (askUpdateBars r) r
     (pick (eqb (r .applied) (r .entries)) (answer Finished (adopting r))
-    (barring (Worn whenever worn r ∷ []) r
+    (barring (wornBars r) r
     (issue Update (r .applied) (started r))))
 
 -- "restoring is set, entries = attempted", and "a phase 1 to 7 becomes" to

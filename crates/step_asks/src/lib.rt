@@ -9,70 +9,61 @@ use record::Stepped;
 use wholeness::Gate;
 ghost use mathlib.Core.Path.{_≡_};
 ghost use Rattle.record.specs.Answers.{tells};
-ghost use Rattle.step_asks.specs.Asks.{askStructureStep, askUpdateStep, askRollbackStep, turned};
+ghost use Rattle.step_asks.specs.Asks.{ticketed, askStructureStep, askUpdateStep, askRollbackStep, turned};
+
+// The ticket that is given is live, and the serial is its number. It carries the phase, or the action's number.
+fn issue(r: Record, live: Live, item: u32) -> Stepped
+    ensures { λ s. ⌜ tells s ≡ ticketed live item r ⌝ }
+{
+    let number = live.number();
+    r.with_ticket(number, live).answering(Answer::Ticket {
+        number: number,
+        item: item,
+    })
+}
 
 // A ticket for the structure work of the phase.
 pub fn ask_structure(r: Record, found: Findings) -> Stepped
     ensures { λ s. ⌜ tells s ≡ askStructureStep (found .sized) (found .sound) r ⌝ }
 {
-    let gate = wholeness::admit(r, found);
+    let p = r.phase.number;
+    let gate = wholeness::admit(r, found).bar(
+        (p == Phase::NONE) | (p == Phase::UPDATES) | (p == Phase::UNDO),
+        Refusal::NotReady,
+    );
     if let Gate::Shut(why) = gate {
         return r.refuse(why);
     }
-    let p = r.phase.number;
-    if (p == Phase::NONE) | (p == Phase::UPDATES) | (p == Phase::UNDO) {
-        return r.refuse(Refusal::NotReady);
-    }
     if (p == Phase::READY) | (p == Phase::RECOVERED) {
-        return Stepped {
-            answer: Answer::Finished,
-            state: r,
-        };
+        return r.answering(Answer::Finished);
     }
     if r.serial == record::MAX {
         return r.refuse(Refusal::Worn);
     }
-    let number = r.serial + 1;
-    Stepped {
-        answer: Answer::Ticket {
-            number: number,
-            item: p as u32,
-        },
-        state: r.with_ticket(number, Live::Structure(number)),
-    }
+    issue(r, Live::Structure(r.serial + 1), p as u32)
 }
 
 // A ticket for the next action.
 pub fn ask_update(r: Record, found: Findings) -> Stepped
     ensures { λ s. ⌜ tells s ≡ askUpdateStep (found .sized) (found .sound) r ⌝ }
 {
-    let gate = wholeness::admit(r, found);
+    let p = r.phase.number;
+    let gate = wholeness::admit(r, found).bar(
+        !((p == Phase::NONE) | (p == Phase::UPDATES)) | r.restoring,
+        Refusal::Recovering,
+    );
     if let Gate::Shut(why) = gate {
         return r.refuse(why);
     }
-    let p = r.phase.number;
-    if !((p == Phase::NONE) | (p == Phase::UPDATES)) | r.restoring {
-        return r.refuse(Refusal::Recovering);
-    }
     if r.applied == r.entries {
-        return Stepped {
-            answer: Answer::Finished,
-            state: r.adopting(),
-        };
+        return r.adopting().answering(Answer::Finished);
     }
     if r.serial == record::MAX {
         return r.refuse(Refusal::Worn);
     }
-    let number = r.serial + 1;
     let mut started = r;
     started.attempted = r.applied + 1;
-    Stepped {
-        answer: Answer::Ticket {
-            number: number,
-            item: r.applied,
-        },
-        state: started.with_ticket(number, Live::Update(number)),
-    }
+    issue(started, Live::Update(r.serial + 1), r.applied)
 }
 
 // The way back: only the actions that were attempted stay entries, and a phase 1 to 7 becomes `to`.
@@ -97,28 +88,17 @@ pub fn ask_rollback(r: Record, found: Findings) -> Stepped
         return r.refuse(why);
     }
     if Phase::RECOVER_REMOVE <= r.phase.number {
-        return Stepped {
-            answer: Answer::Finished,
-            state: r,
-        };
+        return r.answering(Answer::Finished);
+    }
+    if (0 < r.attempted) & (r.serial == record::MAX) {
+        return r.refuse(Refusal::Worn);
     }
     if r.attempted == 0 {
-        let back = turned(r, Phase::RECOVER_REMOVE);
-        return Stepped {
-            answer: Answer::Finished,
-            state: back.with_ticket(r.serial, Live::None),
-        };
-    }
-    if r.serial == record::MAX {
-        return r.refuse(Refusal::Worn);
+        return turned(r, Phase::RECOVER_REMOVE)
+            .with_ticket(r.serial, Live::None)
+            .answering(Answer::Finished);
     }
     let number = r.serial + 1;
     let back = turned(r, Phase::UNDO);
-    Stepped {
-        answer: Answer::Ticket {
-            number: number,
-            item: r.attempted - 1,
-        },
-        state: back.with_ticket(number, Live::Rollback(number)),
-    }
+    issue(back, Live::Rollback(number), r.attempted - 1)
 }

@@ -8,9 +8,12 @@ use record::Refusal;
 use record::Stepped;
 use record::Was;
 use wholeness::Gate;
+ghost use mathlib.Core.List.{[]};
 ghost use mathlib.Core.Path.{_≡_};
 ghost use Rattle.record.specs.Answers.{tells};
-ghost use Rattle.step_ends.specs.Ending.{idleAt, unrestored, commitStep, recoverStep, recoverRetainedStep, refreshStep};
+ghost use Rattle.step_ends.specs.Ending.{idleAt, unrestored, recoveredTo, commitBars, recoverBars, refreshBars};
+ghost use Rattle.step_ends.specs.Ending.{commitStep, recoverStep, recoverRetainedStep, refreshStep};
+ghost use Rattle.wholeness.specs.Gates.{gateOf, gated, through};
 
 // The idle record after a commit or a recovery.
 fn idle_at(mut r: Record, revision: u64, accepted: usize) -> Record
@@ -31,25 +34,27 @@ fn idle_at(mut r: Record, revision: u64, accepted: usize) -> Record
     r.with_ticket(r.serial, Live::None)
 }
 
+// The refusals of a commit, in their order.
+fn commit_gate(r: Record, found: Findings) -> Gate
+    ensures { λ g. ⌜ g ≡ through (gateOf (found .sized) (found .sound) r) (commitBars r) ⌝ }
+{
+    let p = r.phase.number;
+    wholeness::admit(r, found).bar(!r.staged, Refusal::Idle).bar(
+        !wholeness::complete(r) | !((p == Phase::NONE) | (p == Phase::READY)),
+        Refusal::NotReady,
+    )
+}
+
 // The candidate becomes the accepted payload.
 pub fn commit(r: Record, found: Findings) -> Stepped
     ensures { λ s. ⌜ tells s ≡ commitStep (found .sized) (found .sound) r ⌝ }
 {
-    let gate = wholeness::admit(r, found);
+    let gate = commit_gate(r, found);
     if let Gate::Shut(why) = gate {
         return r.refuse(why);
     }
-    if !r.staged {
-        return r.refuse(Refusal::Idle);
-    }
-    let p = r.phase.number;
-    if !wholeness::complete(r) | !((p == Phase::NONE) | (p == Phase::READY)) {
-        return r.refuse(Refusal::NotReady);
-    }
-    Stepped {
-        answer: Answer::Done(Was::Three(r.accepted, r.recovery, r.entries as usize)),
-        state: idle_at(r, r.revision + 1, r.candidate),
-    }
+    let was = Was::Three(r.accepted, r.recovery, r.entries as usize);
+    idle_at(r, r.revision + 1, r.candidate).answering(Answer::Done(was))
 }
 
 // Whether a recovery comes too early: entries are left to undo, or the way back is not at its end.
@@ -59,67 +64,58 @@ fn unrestored(r: Record) -> bool
     (0 < r.entries) | !((r.phase.number == Phase::NONE) | (r.phase.number == Phase::RECOVERED))
 }
 
+// The refusals of both recoveries, in their order.
+fn recover_gate(r: Record, found: Findings) -> Gate
+    ensures { λ g. ⌜ g ≡ through (gateOf (found .sized) (found .sound) r) (recoverBars r []) ⌝ }
+{
+    wholeness::admit(r, found)
+        .bar(!r.staged, Refusal::Idle)
+        .bar(unrestored(r), Refusal::NotReady)
+}
+
+// What both recoveries do behind their gates: a payload of a length becomes the accepted one.
+fn recovered(r: Record, gate: Gate, accepted: usize) -> Stepped
+    ensures { λ s. ⌜ tells s ≡ gated gate r (recoveredTo accepted r) ⌝ }
+{
+    if let Gate::Shut(why) = gate {
+        return r.refuse(why);
+    }
+    let was = Was::Three(r.accepted, r.candidate, r.recovery);
+    idle_at(r, r.revision, accepted).answering(Answer::Done(was))
+}
+
 // A snapshot of a length, in the exchange area, becomes the accepted payload.
 pub fn recover(r: Record, found: Findings, length: usize) -> Stepped
     ensures { λ s. ⌜ tells s ≡ recoverStep (found .sized) (found .sound) r length ⌝ }
 {
-    let gate = wholeness::admit(r, found);
-    if let Gate::Shut(why) = gate {
-        return r.refuse(why);
-    }
-    if !r.staged {
-        return r.refuse(Refusal::Idle);
-    }
-    if unrestored(r) {
-        return r.refuse(Refusal::NotReady);
-    }
-    if areas::SIZE < length {
-        return r.refuse(Refusal::TooLong);
-    }
-    Stepped {
-        answer: Answer::Done(Was::Three(r.accepted, r.candidate, r.recovery)),
-        state: idle_at(r, r.revision, length),
-    }
+    recovered(r, recover_gate(r, found).bar_snapshot(length), length)
 }
 
 // The retained recovery payload becomes the accepted one.
 pub fn recover_retained(r: Record, found: Findings) -> Stepped
     ensures { λ s. ⌜ tells s ≡ recoverRetainedStep (found .sized) (found .sound) r ⌝ }
 {
-    let gate = wholeness::admit(r, found);
-    if let Gate::Shut(why) = gate {
-        return r.refuse(why);
-    }
-    if !r.staged {
-        return r.refuse(Refusal::Idle);
-    }
-    if unrestored(r) {
-        return r.refuse(Refusal::NotReady);
-    }
-    Stepped {
-        answer: Answer::Done(Was::Three(r.accepted, r.candidate, r.recovery)),
-        state: idle_at(r, r.revision, r.recovery),
-    }
+    recovered(r, recover_gate(r, found), r.recovery)
+}
+
+// The refusals of a refresh, in their order.
+fn refresh_gate(r: Record, found: Findings, length: usize) -> Gate
+    ensures { λ g. ⌜ g ≡ through (gateOf (found .sized) (found .sound) r) (refreshBars r length) ⌝ }
+{
+    wholeness::admit(r, found)
+        .bar(r.staged, Refusal::Pending)
+        .bar_snapshot(length)
 }
 
 // A snapshot of a length, in the exchange area, replaces the accepted payload; no revision is made.
 pub fn refresh(r: Record, found: Findings, length: usize) -> Stepped
     ensures { λ s. ⌜ tells s ≡ refreshStep (found .sized) (found .sound) r length ⌝ }
 {
-    let gate = wholeness::admit(r, found);
+    let gate = refresh_gate(r, found, length);
     if let Gate::Shut(why) = gate {
         return r.refuse(why);
     }
-    if r.staged {
-        return r.refuse(Refusal::Pending);
-    }
-    if areas::SIZE < length {
-        return r.refuse(Refusal::TooLong);
-    }
     let mut fresh = r;
     fresh.accepted = length;
-    Stepped {
-        answer: Answer::Done(Was::One(r.accepted)),
-        state: fresh,
-    }
+    fresh.answering(Answer::Done(Was::One(r.accepted)))
 }

@@ -3,7 +3,7 @@
 use Prim.Native.Nat.{ℕ, _≤_, _<_}
 use mathlib.Core.Path.{_≡_, refl, sym, _∙_, ap}
 use mathlib.Core.Bool.{Bool, true, false, not}
-use mathlib.Core.List.{List, []}
+use mathlib.Core.List.{List}
 use native.Mathlib.Omega.{arith}
 use Rattle.choice.proofs.Tests.{never}
 use Rattle.batch.specs.Batch.{limit}
@@ -16,16 +16,16 @@ use Rattle.wholeness.specs.declared.Gate.{Gate}
 use Rattle.wholeness.specs.declared.Gate.the-variants.{Open}
 use Rattle.wholeness.proofs.Facts.{Parts, behind, counts-of, forward-small, back-small, live-rollback, restoring-all}
 use Rattle.wholeness.proofs.Passing.{Clear, clear}
-use Rattle.step_reports.specs.Reports.{stale, reported, reportRollbackBars}
+use Rattle.step_reports.specs.Reports.{reported, reportRollbackBars}
 
 holds : {b : Bool} → not b ≡ false → b ≡ true
 holds {b = true} h = refl
 holds {b = false} h = never h
 
 -- behind the gate g of a report, found open
-module _ {g : Gate} (sized sound : Bool) (r : Record) (work ticket : ℕ) (bs : List Bar) (e : g ≡ through (gateOf sized sound r) (stale work ticket r bs)) (h : g ≡ Open) where
-  passes : (gateOf sized sound r ≡ Open) × Clear (stale work ticket r bs)
-  passes = clear (gateOf sized sound r) (stale work ticket r bs) (sym e ∙ h)
+module _ {g : Gate} (sized sound : Bool) (r : Record) (bs : List Bar) (e : g ≡ through (gateOf sized sound r) bs) (h : g ≡ Open) where
+  passes : (gateOf sized sound r ≡ Open) × Clear bs
+  passes = clear (gateOf sized sound r) bs (sym e ∙ h)
 
   tested : Parts r
   tested = behind sized sound r refl (passes .0)
@@ -38,15 +38,13 @@ module _ {g : Gate} (sized sound : Bool) (r : Record) (work ticket : ℕ) (bs : 
   pub update-room : r .applied ≤ limit
   update-room = let c = counts-of _ _ _ (tested .counts) in omega arith
 
-  live : isLive work ticket (r .live) ≡ true
-  live = holds (passes .1 .0)
-
 -- a rollback report has an action to take off
-pub rollback-room : {g : Gate} (sized sound : Bool) (r : Record) (ticket : ℕ) → g ≡ through (gateOf sized sound r) (reportRollbackBars r ticket) → g ≡ Open
-    → (0 < r .entries) × (0 < r .attempted)
+pub rollback-room : {g : Gate} (sized sound : Bool) (r : Record) (ticket : ℕ) → g ≡ through (gateOf sized sound r) (reportRollbackBars r ticket)
+    → g ≡ Open → (0 < r .entries) × (0 < r .attempted)
 rollback-room sized sound r ticket e h =
-    let t = tested sized sound r rollback ticket [] e h in
-    let b = live-rollback _ ticket _ _ _ _ _ _ (t .live) (live sized sound r rollback ticket [] e h) in
+    let t = tested sized sound r (reportRollbackBars r ticket) e h in
+    let l : isLive rollback ticket (r .live) ≡ true = holds (passes sized sound r (reportRollbackBars r ticket) e h .1 .0) in
+    let b = live-rollback _ ticket _ _ _ _ _ _ (t .live) l in
     let k = restoring-all _ _ _ _ _ (t .restoring) (b .0) in
     (b .1, omega arith)
 

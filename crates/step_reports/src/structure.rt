@@ -14,8 +14,7 @@ ghost use mathlib.Core.Path.{_≡_};
 ghost use Prim.Native.Nat.{_≤_};
 ghost use Rattle.record.specs.Answers.{tells};
 ghost use Rattle.step_reports.specs.Done.{advanced, structureDone};
-ghost use Rattle.step_reports.specs.Reports.{reportStructureBars, reportStructureStep};
-ghost use Rattle.wholeness.specs.Gates.{gateOf, through};
+ghost use Rattle.step_reports.specs.Reports.{reportStructureStep};
 
 // On to the successor of the phase, and the count of that way is raised.
 fn advanced(mut r: Record) -> Record
@@ -48,19 +47,6 @@ fn structure_done(r: Record) -> Stepped
     next.answering(Answer::More)
 }
 
-// The refusals of a structure report, in their order.
-fn structure_gate(
-    r: Record,
-    found: Findings,
-    ticket: u64,
-    candidate: usize,
-    recovery: usize,
-) -> Gate
-    ensures { λ g. ⌜ g ≡ through (gateOf (found .sized) (found .sound) r) (reportStructureBars r ticket candidate recovery) ⌝ }
-{
-    report_gate(r, found, Live::STRUCTURE, ticket).bar_payloads(candidate, recovery)
-}
-
 // A report of structure work, with the lengths of the candidate and recovery payloads that it stores.
 pub fn report_structure(
     r: Record,
@@ -72,7 +58,7 @@ pub fn report_structure(
 ) -> Stepped
     ensures { λ s. ⌜ tells s ≡ reportStructureStep (found .sized) (found .sound) r ticket outcome candidate recovery ⌝ }
 {
-    let gate = structure_gate(r, found, ticket, candidate, recovery);
+    let gate = report_gate(r, found, Live::STRUCTURE, ticket).bar_payloads(candidate, recovery);
     if let Gate::Shut(why) = gate {
         return r.refuse(why);
     }

@@ -8,6 +8,8 @@ use record::Record;
 use record::Stepped;
 use step_stamps::Checked;
 use step_stamps::Stamping;
+use transaction::AREA;
+use transaction::TABLE;
 
 fn tell(what: &[u8], number: u64) {
     io::write_all(STDOUT_FILENO, what);
@@ -59,10 +61,10 @@ fn reload(
 }
 
 fn main() {
-    let mut accepted = [0u8; 4096];
-    let mut candidate = [0u8; 4096];
-    let mut recovery = [0u8; 4096];
-    let mut table = [0u64; 128];
+    let mut accepted = [0u8; AREA];
+    let mut candidate = [0u8; AREA];
+    let mut recovery = [0u8; AREA];
+    let mut table = [0u64; TABLE];
     let given = Opening {
         revision: 7,
         serial: 0,

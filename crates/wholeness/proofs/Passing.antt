@@ -73,6 +73,10 @@ module _ {g : Gate} (d : Gate) (bs : List Bar) (e : g ≡ through d bs) where
   pub let-in : {z done : Told} (r : Record) → g ≡ Open → z ≡ done → z ≡ gated d r (barring bs r done)
   let-in {done = done} r h p = opened r e h p ∙ in-a-row d bs r done
 
+  -- and so is one that the gate is handed to
+  pub handed : {z : Told} (r : Record) (done : Told) → z ≡ gated g r done → z ≡ gated d r (barring bs r done)
+  handed r done p = p ∙ ap (λ (x : Gate). gated x r done) e ∙ in-a-row d bs r done
+
 -- behind an open row no test holds
 abbrev pub Clear : List Bar → Type 0
 Clear [] = true ≡ true

@@ -1,55 +1,49 @@
 -- `step_asks::ask_structure` meets its contract: a return for each test of the definition. Assumes nothing.
-use Prim.Native.Nat.{_+_}
-use mathlib.Core.Path.{refl, ap}
+use borrow.Author.Tests.{eq-eqb, ne-eqb}
 use Rattle.choice.specs.Pick.{_or_}
 use Rattle.choice.proofs.Picks.{yes, no}
-use Rattle.choice.proofs.Tests.{branches}
-use Rattle.record.specs.Answers.{answer}
-use Rattle.record.specs.declared.Answer.the-variants.{Ticket}
-use Rattle.wholeness.proofs.Passing.{shut, opened}
-use Rattle.step_asks.specs.Asks.{askStructureOwn}
+use Rattle.wholeness.proofs.Passing.{next, barred-out, let-in}
+use Rattle.step_asks.specs.Asks.{askStructureBars, askStructureOwn}
 use borrow.Author.Needs.{needs}
 use Rattle.step_asks.proofs.ask_structure.Statement.{statement}
 use Rattle.step_asks.proofs.ask_structure.Tie as tie
 
 returns : tie.Need-returns
-returns c = shut _ (c .before .before .before .before .admit .ensures) (c .before .before .gate .given .1) (c .refuse .ensures)
+unfolding askStructureOwn _or_
+returns c =
+    let k = c .before .before .before .before in
+    let r = k .before .before .args .r in
+    barred-out _ (askStructureBars r) (next _ _ (k .bar .ensures) (k .before .admit .ensures)) r _ (c .before .before .gate .given .1)
+    (c .refuse .ensures)
 
 returns-2 : tie.Need-returns-2
 unfolding askStructureOwn _or_
-returns-2 c = opened _ (c .before .before .before .before .admit .ensures) (c .before .before .enum-told .given .1) (yes _ (search branches) (c .refuse2 .ensures))
+returns-2 c =
+    let k = c .before .before .before .before in
+    let r = k .before .before .args .r in
+    let-in _ (askStructureBars r) (next _ _ (k .bar .ensures) (k .before .admit .ensures)) r (c .before .before .enum-told .given .1)
+    (yes _ (c .before .if1 .taken) (c .answering .ensures))
 
 returns-3 : tie.Need-returns-3
 unfolding askStructureOwn _or_
-returns-3 c = opened _ (c .before .before .before .before .admit .ensures) (c .before .before .enum-told .given .1) (no _ (search branches) (yes _ (search branches) refl))
+returns-3 c =
+    let i = c .before .before .before in
+    let k = i .before .before .before in
+    let r = k .before .before .args .r in
+    let-in _ (askStructureBars r) (next _ _ (k .bar .ensures) (k .before .admit .ensures)) r (i .before .enum-told .given .1)
+    (no _ (i .if1 .left) (yes _ (eq-eqb _ _ (c .before .if2 .taken)) (c .refuse2 .ensures)))
 
 returns-4 : tie.Need-returns-4
 unfolding askStructureOwn _or_
 returns-4 c =
-    opened _ (c .before .before .before .before .before .before .before .admit .ensures) (c .before .before .before .before .before .enum-told .given .1) (no _ (search branches) (no _ (search branches) (yes _ (search branches) (c .refuse3 .ensures))))
-
-returns-5 : tie.Need-returns-5
-unfolding askStructureOwn _or_
-returns-5 c =
-    let r = c .before .before .before .before .before .before .before .before .before .args .r in
-    opened _ (c .before .before .before .before .before .before .before .before .admit .ensures) (c .before .before .before .before .before .before .enum-told .given .1)
-    (no _ (search branches) (no _ (search branches) (no _ (search branches) (ap (answer (Ticket (r .serial + 1) (r .phase .number))) (c .with-ticket .ensures)))))
+    let i = c .before .before .before .before in
+    let k = i .before .before .before in
+    let r = k .before .before .args .r in
+    let-in _ (askStructureBars r) (next _ _ (k .bar .ensures) (k .before .admit .ensures)) r (i .before .enum-told .given .1)
+    (no _ (i .if1 .left) (no _ (ne-eqb _ _ (c .before .before .if2 .left)) (c .issue .ensures)))
 
 pub ask-structure-spec : {M : Type 1} → statement M
 ask-structure-spec =
     tie.close
-    (tie.spec
-    (search needs)
-    (search needs)
-    (search needs)
-    returns
-    (search needs)
-    (search needs)
-    returns-2
-    returns-3
-    (search needs)
-    returns-4
-    (search needs)
-    (search needs)
-    (search needs)
-    returns-5)
+    (tie.spec (search needs) (search needs) (search needs) (search needs) returns (search needs) (search needs) returns-2 (search needs) returns-3
+    (search needs) (search needs) (search needs) returns-4)

@@ -1,49 +1,14 @@
--- `step_ends::recover_retained` meets its contract: a return for each test of the definition. Assumes nothing.
-use mathlib.Core.Path.{ap}
-use Rattle.choice.proofs.Picks.{yes, no, told}
-use Rattle.record.specs.Answers.{answer}
-use Rattle.record.specs.declared.Answer.the-variants.{Done}
-use Rattle.record.specs.declared.Was.the-variants.{Three}
-use Rattle.wholeness.proofs.Passing.{shut, opened}
-use Rattle.step_ends.specs.Ending.{recoverRetainedOwn}
+-- `step_ends::recover_retained` meets its contract: the gate of both recoveries. Assumes nothing.
+use mathlib.Core.List.{[]}
+use Rattle.wholeness.proofs.Passing.{handed}
+use Rattle.step_ends.specs.Ending.{recoverBars, recoverRetainedOwn}
 use borrow.Author.Needs.{needs}
 use Rattle.step_ends.proofs.recover_retained.Statement.{statement}
 use Rattle.step_ends.proofs.recover_retained.Tie as tie
 
 returns : tie.Need-returns
-returns c = shut _ (c .before .before .before .before .admit .ensures) (c .before .before .gate .given .1) (c .refuse .ensures)
-
-returns-2 : tie.Need-returns-2
 unfolding recoverRetainedOwn
-returns-2 c = opened _ (c .before .before .before .before .before .admit .ensures) (c .before .before .before .enum-told .given .1) (yes _ (c .before .if1 .taken) (c .refuse2 .ensures))
-
-returns-3 : tie.Need-returns-3
-unfolding recoverRetainedOwn
-returns-3 c =
-    opened _ (c .before .before .before .before .before .before .before .admit .ensures) (c .before .before .before .before .before .enum-told .given .1)
-    (no _ (c .before .before .before .if1 .left) (yes _ (told (c .before .before .unrestored .ensures) (c .before .if2 .taken)) (c .refuse3 .ensures)))
-
-returns-4 : tie.Need-returns-4
-unfolding recoverRetainedOwn
-returns-4 c =
-    let r = c .before .before .before .before .before .before .before .before .args .r in
-    opened _ (c .before .before .before .before .before .before .before .admit .ensures) (c .before .before .before .before .before .enum-told .given .1)
-    (no _ (c .before .before .before .if1 .left) (no _ (told (c .before .before .unrestored .ensures) (c .before .if2 .left))
-    (ap (answer (Done (Three (r .accepted) (r .candidate) (r .recovery)))) (c .idle-at .ensures))))
+returns c = handed _ (recoverBars (c .before .before .args .r) []) (c .before .recover-gate .ensures) _ _ (c .recovered .ensures)
 
 pub recover-retained-spec : {M : Type 1} → statement M
-recover-retained-spec =
-    tie.close
-    (tie.spec
-    (search needs)
-    (search needs)
-    (search needs)
-    returns
-    (search needs)
-    (search needs)
-    returns-2
-    (search needs)
-    (search needs)
-    returns-3
-    (search needs)
-    returns-4)
+recover-retained-spec = tie.close (tie.spec (search needs) (search needs) returns)

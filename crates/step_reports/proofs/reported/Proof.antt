@@ -1,5 +1,5 @@
 -- `step_reports::reported` meets its contract: a case for each outcome. Assumes nothing.
-use mathlib.Core.Path.{_∙_, ap, sym, refl}
+use mathlib.Core.Path.{_∙_, ap, sym}
 use Rattle.record.specs.Answers.{Told, tells}
 use Rattle.record.specs.Given.{effectOf}
 use Rattle.record.specs.declared.Outcome.{Outcome}
@@ -14,11 +14,15 @@ of r done o = reported (effectOf o) r done
 
 returns : tie.Need-returns
 unfolding reported
-returns c = let a = c .before .before .before .args in c .answering .ensures ∙ ap (of (a .r) (tells (a .done))) (sym (c .before .enum-told .given .1))
+returns c =
+    let a = c .before .before .before .args in
+    c .answering .ensures ∙ ap (of (a .r) (tells (a .done))) (sym (c .before .enum-told .given .1))
 
 returns-2 : tie.Need-returns-2
 unfolding reported
-returns-2 c = let a = c .before .before .before .before .args in c .answering2 .ensures ∙ ap (of (a .r) (tells (a .done))) (sym (c .before .before .outcome .given .1))
+returns-2 c =
+    let a = c .before .before .before .before .args in
+    c .answering2 .ensures ∙ ap (of (a .r) (tells (a .done))) (sym (c .before .before .outcome .given .1))
 
 returns-3 : tie.Need-returns-3
 unfolding reported

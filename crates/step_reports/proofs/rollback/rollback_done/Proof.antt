@@ -21,7 +21,8 @@ unfolding rollbackDone
 returns c =
     let k = c .before .before .before in
     let r = k .before .before .before .args .r in
-    yes _ (eq-eqb _ _ (c .before .before .if1 .taken)) (c .answering .ensures ∙ ap (answer Finished) (c .before .leaving .ensures ∙ ap (λ (a : ℕ). leaving (off r a)) (k .least .ensures)))
+    yes _ (eq-eqb _ _ (c .before .before .if1 .taken))
+    (c .answering .ensures ∙ ap (answer Finished) (c .before .leaving .ensures ∙ ap (λ (a : ℕ). leaving (off r a)) (k .least .ensures)))
 
 returns-2 : tie.Need-returns-2
 unfolding rollbackDone

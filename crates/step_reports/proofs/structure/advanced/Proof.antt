@@ -27,12 +27,16 @@ returns c = ap (from (c .before .before .before .args .r)) (sym (c .enum-told .g
 returns-2 : tie.Need-returns-2
 unfolding advanced onward pick
 returns-2 c =
-    let r = c .before .before .before .before .before .before .args .r in ap (by r _) (sym (le-leb _ _ (c .before .if1 .taken))) ∙ ap (from r) (sym (c .before .before .before .found .given .1) ∙ c .before .before .before .before .before .successor .ensures)
+    let k = c .before .before .before in
+    let r = k .before .before .before .args .r in
+    ap (by r _) (sym (le-leb _ _ (c .before .if1 .taken))) ∙ ap (from r) (sym (k .found .given .1) ∙ k .before .before .successor .ensures)
 
 returns-3 : tie.Need-returns-3
 unfolding advanced onward pick
 returns-3 c =
-    let r = c .before .before .before .before .before .before .args .r in ap (by r _) (sym (lt-leb _ _ (c .before .if1 .left))) ∙ ap (from r) (sym (c .before .before .before .found .given .1) ∙ c .before .before .before .before .before .successor .ensures)
+    let k = c .before .before .before in
+    let r = k .before .before .before .args .r in
+    ap (by r _) (sym (lt-leb _ _ (c .before .if1 .left))) ∙ ap (from r) (sym (k .found .given .1) ∙ k .before .before .successor .ensures)
 
 pub advanced-spec : {M : Type 1} → statement M
 advanced-spec =

@@ -1,9 +1,8 @@
 -- `step_reports::structure::report_structure` meets its contract. Assumes nothing.
 use mathlib.Core.List.{[]}
-use Rattle.record.specs.Live.{structure}
 use Rattle.record.specs.Given.{effectOf}
 use Rattle.wholeness.specs.Gates.{longPayloads}
-use Rattle.wholeness.proofs.Passing.{barred-out, let-in}
+use Rattle.wholeness.proofs.Passing.{next-row, barred-out, let-in}
 use Rattle.step_reports.specs.Done.{structureDone}
 use Rattle.step_reports.specs.Reports.{reportStructureBars, reportStructureOwn}
 use Rattle.step_reports.proofs.Taken.{structure-room, taking}
@@ -15,25 +14,31 @@ returns : tie.Need-returns
 unfolding reportStructureOwn
 returns c =
     let k = c .before .before .before .before in
-    let a = k .before .args in
-    barred-out _ (reportStructureBars (a .r) (a .ticket) (a .candidate) (a .recovery)) (k .structure-gate .ensures) (a .r) _ (c .before .before .gate .given .1) (c .refuse .ensures)
+    let a = k .before .before .args in
+    barred-out _ (reportStructureBars (a .r) (a .ticket) (a .candidate) (a .recovery))
+    (next-row (longPayloads (a .candidate) (a .recovery) []) (k .bar-payloads .ensures) (k .before .report-gate .ensures)) (a .r) _
+    (c .before .before .gate .given .1) (c .refuse .ensures)
 
 structure-done-requires : tie.Need-structure-done-requires
 structure-done-requires c κs =
     let k = c .before .before .before in
-    let a = k .before .args in
-    rw (c .with-ticket .ensures) (structure-room _ _ (a .r) structure (a .ticket) (longPayloads (a .candidate) (a .recovery) []) (k .structure-gate .ensures) (c .before .enum-told .given .1))
+    let a = k .before .before .args in
+    rw (c .with-ticket .ensures)
+    (structure-room _ _ (a .r) (reportStructureBars (a .r) (a .ticket) (a .candidate) (a .recovery))
+    (next-row (longPayloads (a .candidate) (a .recovery) []) (k .bar-payloads .ensures) (k .before .report-gate .ensures)) (c .before .enum-told .given .1))
 
 returns-2 : tie.Need-returns-2
 unfolding reportStructureOwn
 returns-2 c =
     let w = c .before .before in
     let k = w .before .before .before in
-    let a = k .before .args in
-    let-in _ (reportStructureBars (a .r) (a .ticket) (a .candidate) (a .recovery)) (k .structure-gate .ensures) (a .r) (w .before .enum-told .given .1)
+    let a = k .before .before .args in
+    let-in _ (reportStructureBars (a .r) (a .ticket) (a .candidate) (a .recovery))
+    (next-row (longPayloads (a .candidate) (a .recovery) []) (k .bar-payloads .ensures) (k .before .report-gate .ensures)) (a .r)
+    (w .before .enum-told .given .1)
     (taking structureDone (effectOf (a .outcome)) (c .reported .ensures) (c .before .structure-done .ensures) (w .with-ticket .ensures))
 
 pub report-structure-spec : {M : Type 1} → statement M
 report-structure-spec =
     tie.close
-    (tie.spec (search needs) (search needs) (search needs) returns (search needs) (search needs) structure-done-requires (search needs) returns-2)
+    (tie.spec (search needs) (search needs) (search needs) (search needs) returns (search needs) (search needs) structure-done-requires (search needs) returns-2)

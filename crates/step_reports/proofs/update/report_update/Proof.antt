@@ -1,6 +1,4 @@
 -- `step_reports::update::report_update` meets its contract. Assumes nothing.
-use mathlib.Core.List.{[]}
-use Rattle.record.specs.Live.{update}
 use Rattle.record.specs.Given.{effectOf}
 use Rattle.wholeness.proofs.Passing.{barred-out, let-in}
 use Rattle.step_reports.specs.Done.{updateDone}
@@ -21,7 +19,8 @@ update-done-requires : tie.Need-update-done-requires
 update-done-requires c κs =
     let k = c .before .before .before in
     let a = k .before .args in
-    rw (c .with-ticket .ensures) (update-room _ _ (a .r) update (a .ticket) [] (k .report-gate .ensures) (c .before .enum-told .given .1))
+    let b = reportUpdateBars (a .r) (a .ticket) in
+    rw (c .with-ticket .ensures) (update-room _ _ (a .r) b (k .report-gate .ensures) (c .before .enum-told .given .1))
 
 returns-2 : tie.Need-returns-2
 unfolding reportUpdateOwn

@@ -1,0 +1,20 @@
+-- `step_asks::issue` meets its contract. Assumes nothing.
+use mathlib.Core.Path.{_∙_, ap}
+use Prim.Native.Nat.{ℕ}
+use Rattle.record.specs.Fields.{withTicket}
+use Rattle.record.specs.Answers.{answer}
+use Rattle.record.specs.declared.Answer.the-variants.{Ticket}
+use borrow.Author.Needs.{needs}
+use Rattle.step_asks.proofs.issue.Statement.{statement}
+use Rattle.step_asks.proofs.issue.Tie as tie
+
+returns : tie.Need-returns
+returns c =
+    let k = c .before .before in
+    let a = k .before .args in
+    c .answering .ensures
+    ∙ ap (answer (Ticket (k .number .result) (a .item))) (c .before .with-ticket .ensures)
+    ∙ ap (λ (n : ℕ). answer (Ticket n (a .item)) (withTicket n (a .live) (a .r))) (k .number .ensures)
+
+pub issue-spec : {M : Type 1} → statement M
+issue-spec = tie.close (tie.spec (search needs) (search needs) (search needs) returns)

@@ -1,0 +1,13 @@
+-- `step_ends::refresh_gate` meets its contract. Assumes nothing.
+use mathlib.Core.List.{[]}
+use Rattle.wholeness.specs.Gates.{longSnapshot}
+use Rattle.wholeness.proofs.Passing.{next, next-row}
+use borrow.Author.Needs.{needs}
+use Rattle.step_ends.proofs.refresh_gate.Statement.{statement}
+use Rattle.step_ends.proofs.refresh_gate.Tie as tie
+
+returns : tie.Need-returns
+returns c = next-row (longSnapshot _ []) (c .bar-snapshot .ensures) (next _ _ (c .before .bar .ensures) (c .before .before .admit .ensures))
+
+pub refresh-gate-spec : {M : Type 1} → statement M
+refresh-gate-spec = tie.close (tie.spec (search needs) (search needs) (search needs) returns)
