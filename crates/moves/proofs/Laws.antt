@@ -30,11 +30,9 @@ side-by-side false l m l' m' = refl
 
 pub in-turn : {s t u : Told} {now now' : List (List ℕ)} (lent moved lent' moved' : List (List ℕ)) → leaves s now ≡ moving t lent moved
     → leaves u now' ≡ moving s lent' moved' → leaves u (now ++ now') ≡ moving t (lent ++ lent') (moved ++ moved')
-in-turn {t = t} lent moved lent' moved' e h =
-    let p = ap (λ (x : Leaves). x .told) e in
-    let l = ap (λ (x : Leaves). x .lent) e in
-    let q = ap (λ (x : Leaves). x .told) h in
-    let l' = ap (λ (x : Leaves). x .lent) h ∙ ap (λ (d : Told). pick (refused (d .class)) lent' moved') p in
-    cc (p, l, q, l', side-by-side (refused (t .class)) lent moved lent' moved')
+in-turn {now = now} lent moved lent' moved' e h =
+    ap (λ (x : Leaves). leaves (x .told) (now ++ x .lent)) h
+    ∙ ap (λ (x : Leaves). leaves (x .told) (x .lent ++ pick (refused (x .told .class)) lent' moved')) e
+    ∙ ap (leaves _) (side-by-side _ lent moved lent' moved')
 
 pub ruleset ends = (needs, stays, moves, three)

@@ -1,22 +1,17 @@
 -- `call_begins::begin_in` meets its contract: the step goes by the sizes of all that is lent, and the payloads and the pairs are moved in turn. Assumes nothing.
-use mathlib.Core.Path.{_∙_}
-use Rattle.choice.specs.Pick.{_and_}
-use Rattle.areas.specs.Areas.{sized}
-use Rattle.batch.specs.Batch.{tableSized, paired}
 use Rattle.moves.proofs.Laws.{in-turn}
-use Rattle.moves.proofs.Sizes.{asked}
+use Rattle.moves.proofs.Sizes.{by-all}
 use borrow.Author.Needs.{needs}
 use Rattle.call_begins.proofs.begin_in.Statement.{statement}
 use Rattle.call_begins.proofs.begin_in.Tie as tie
 
 returns : tie.Need-returns
-unfolding sized tableSized paired _and_
 returns c =
     let k = c .before .before .before .before .before .before .before .before in
     let s = k .before .before .before in
     let z = s .before .before in
-    asked _ _ _ _ _ (in-turn _ _ _ _ (k .payloads .ensures) (c .before .before .pairs .ensures)) (s .begin .ensures)
-    (s .before .of .ensures ∙ cc (z .before .before .before .is-sized .ensures, z .before .before .is-sized2 .ensures, z .before .is-sized3 .ensures, z .are-pairs .ensures))
+    by-all _ _ _ _ _ _ _ _ (in-turn _ _ _ _ (k .payloads .ensures) (c .before .before .pairs .ensures)) (s .begin .ensures) (s .before .of .ensures)
+    (z .before .before .before .is-sized .ensures) (z .before .before .is-sized2 .ensures) (z .before .is-sized3 .ensures) (z .are-pairs .ensures)
 
 pub begin-in-spec : {M : Type 1} → statement M
 begin-in-spec = tie.close (tie.spec (search needs) (search needs) (search needs) (search needs) (search needs) (search needs) (search needs) (search needs) (search needs) (search needs) (search needs) returns)
