@@ -9,51 +9,35 @@ use Rattle.record.specs.Answers.{Told}
 use Rattle.record.specs.declared.Record.{Record}
 use Rattle.calls.specs.Calls.{Call, AnyCall}
 use Rattle.calls.specs.Calls.AnyCall.{opens, calls}
-use Rattle.calls.specs.Lending.{callOf, leavesOf}
+use Rattle.calls.specs.Lending.{leavesOf}
 use Rattle.noting.specs.Through.{leavesThrough}
 use Rattle.demand_steps.specs.Watching.{Heard, hears}
 use Rattle.demand_chains.specs.Sending.{Sent, answeredAny, afterSent, heardSent}
-use Rattle.demand_logs.specs.Holding.{Held, Given, Doing, lends, does, hearing, tells, sending, sends, afterHeld, heardHeld, sentHeld}
-use Rattle.demand_logs.specs.Holding.Given.{begin, ask, report, edit, commit, recover, recoverRetained, refresh, stamp, check}
+use Rattle.demand_logs.specs.Holding.{Held, Doing, lends, does, hearing, tells, sending, sends, afterHeld, heardHeld, sentHeld}
 use Rattle.demand_logs.specs.Holding.Doing.{transacts, records, fills}
 use Rattle.demand_chains.proofs.SentCalls.{sent-transaction, sent-recorder}
-
--- none of them is an opening
-record Called (c : AnyCall) : Type 0 where
-  call : Call
-  is : c ≡ calls call
-
-called : {logged : Bool} (h : Held) (g : Given logged) → Called (callOf (lends h g))
-called h (begin structural new old pairs) = record { call = _; is = refl }
-called h (ask w) = record { call = _; is = refl }
-called h (report p ticket outcome) = record { call = _; is = refl }
-called h (edit new old) = record { call = _; is = refl }
-called h commit = record { call = _; is = refl }
-called h (recover n) = record { call = _; is = refl }
-called h recoverRetained = record { call = _; is = refl }
-called h (refresh n) = record { call = _; is = refl }
-called h (stamp domain) = record { call = _; is = refl }
-called h (check domain d v) = record { call = _; is = refl }
+use Rattle.demand_logs.proofs.HandedOn.{placed}
 
 -- what was heard up to the record s, as a chain of calls that are sent
 record Follows (r s : Record) (heard : List Heard) (sent : List Sent) : Type 0 where
   state : (ss : List Sent) → afterSent r (sent ++ ss) ≡ afterSent s ss
   told : (ss : List Sent) → heardSent r (sent ++ ss) ≡ heard ++ heardSent s ss
 
--- a call that tells t, and is answered so where it is sent so
-follows : (r : Record) (t : Told) (c : AnyCall) → Called c → (sized sound full : Bool) → t ≡ answeredAny sized sound full r c →
+-- a call, which is no opening, that tells t, and is answered so where it is sent so
+follows : (r : Record) (t : Told) (c : AnyCall) {call : Call} → c ≡ calls call → (sized sound full : Bool) → t ≡ answeredAny sized sound full r c →
     Follows r (t .state) (hearing c t) (sending c sized sound full)
 unfolding afterSent heardSent
-follows r t (opens v s n) k sized sound full e = let i = k .is in let z : _≡_ {A = ℕ} 0 1 = cc in absurd (omega arith)
-follows r t (calls c) k sized sound full e = record {
+follows r t (opens given n) i sized sound full e = let z : _≡_ {A = ℕ} 0 1 = cc in absurd (omega arith)
+follows r t (calls c) i sized sound full e = record {
   state = λ ss. ap (λ (u : Told). afterSent (u .state) ss) (sym e);
   told = λ ss. ap (λ (u : Told). hears c u ∷ heardSent (u .state) ss) (sym e);
 }
 
 one : (h : Held) (d : Doing) → Follows (h .state) (does h d .state) (tells h d) (sends h d)
-one h (transacts g) = follows (h .state) (leavesOf (h .state) (lends h g) .told) _ (called h g) _ _ _ (sent-transaction (h .state) (lends h g))
+one h (transacts g) =
+    follows _ (leavesOf (h .state) (lends h g) .told) _ (placed h g (h .state) (h .state) [] [] .called) _ _ _ (sent-transaction (h .state) (lends h g))
 one h (records g) =
-    follows (h .state) (leavesThrough (h .state) (h .log) (lends h g) .told) _ (called h g) _ _ _ (sent-recorder (h .state) (h .log) (lends h g))
+    follows _ (leavesThrough (h .state) (h .log) (lends h g) .told) _ (placed h g (h .state) (h .state) [] [] .called) _ _ _ (sent-recorder (h .state) (h .log) (lends h g))
 one h (fills x) = record { state = λ ss. refl; told = λ ss. refl }
 
 pub held-after : (h : Held) (ds : List Doing) → afterHeld h ds .state ≡ afterSent (h .state) (sentHeld h ds)
