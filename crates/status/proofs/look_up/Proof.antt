@@ -1,12 +1,24 @@
 -- `status::look_up` meets its contract: a return for each test of the definition. Assumes nothing.
-use mathlib.Core.Path.{refl}
+use Prim.Native.Nat.{ℕ, _<_}
+use mathlib.Core.Path.{_≡_, refl}
+use mathlib.Core.Bool.{false, not}
+use native.Mathlib.Omega.{arith}
+use lib.Dec.{eqb, leb, ltb}
+use borrow.Author.Tests.{eqb-true, leb-false, not-false}
 use Rattle.choice.specs.Pick.{_and_, _or_}
 use Rattle.choice.proofs.Picks.{yes, no}
-use Rattle.status.specs.Status.{entryOf, bytesSound}
-use Rattle.status.proofs.Marking.{inside}
+use Rattle.choice.proofs.Tests.{neither}
+use Rattle.status.specs.Status.{mostIds, bytesSound, entryOf}
 use borrow.Author.Needs.{needs}
 use Rattle.status.proofs.look_up.Statement.{statement}
 use Rattle.status.proofs.look_up.Tie as tie
+
+-- an id that is not refused is an index of both
+inside : (m n id : ℕ) → not (eqb m n) or ltb n 1 or ltb mostIds n ≡ false → eqb id 0 or leb n id ≡ false → (id < m) × (id < n)
+inside m n id s e =
+    let l = eqb-true m n (not-false _ (neither (neither s .0) .0)) in
+    let r = leb-false n id (neither e .1) in
+    (omega arith, r)
 
 returns : tie.Need-returns
 unfolding entryOf _or_
