@@ -1,4 +1,4 @@
--- `call_begins::begin_in` meets its contract: the step goes by the sizes of all that is lent, and the payloads and the pairs are moved in turn. Assumes nothing.
+-- `call_begins::begin_as` meets its contract: the step goes by the sizes of all that is lent, and the payloads and the pairs are moved in turn. Assumes nothing.
 use mathlib.Core.Path.{_∙_}
 use Rattle.choice.specs.Pick.{_and_}
 use Rattle.areas.specs.Areas.{sized}
@@ -6,8 +6,8 @@ use Rattle.batch.specs.Batch.{tableSized, paired}
 use Rattle.moves.proofs.Laws.{in-turn}
 use Rattle.moves.proofs.Sizes.{asked}
 use borrow.Author.Needs.{needs}
-use Rattle.call_begins.proofs.begin_in.Statement.{statement}
-use Rattle.call_begins.proofs.begin_in.Tie as tie
+use Rattle.call_begins.proofs.begin_as.Statement.{statement}
+use Rattle.call_begins.proofs.begin_as.Tie as tie
 
 returns : tie.Need-returns
 unfolding sized tableSized paired _and_
@@ -18,5 +18,5 @@ returns c =
     asked _ _ _ _ _ (in-turn _ _ _ _ (k .payloads .ensures) (c .before .before .pairs .ensures)) (s .begin .ensures)
     (s .before .of .ensures ∙ cc (z .before .before .before .is-sized .ensures, z .before .before .is-sized2 .ensures, z .before .is-sized3 .ensures, z .are-pairs .ensures))
 
-pub begin-in-spec : {M : Type 1} → statement M
-begin-in-spec = tie.close (tie.spec (search needs) (search needs) (search needs) (search needs) (search needs) (search needs) (search needs) (search needs) (search needs) (search needs) (search needs) returns)
+pub begin-as-spec : {M : Type 1} → statement M
+begin-as-spec = tie.close (tie.spec (search needs) (search needs) (search needs) (search needs) (search needs) (search needs) (search needs) (search needs) (search needs) (search needs) (search needs) returns)
