@@ -21,8 +21,9 @@ pub fn open(given: Opening, accepted: &mut [u8], payload: &[u8]) -> Stepped
     moves::payload(stepped, accepted, payload)
 }
 
-// Stages a candidate payload (`new`), a recovery payload (`old`) and the pairs of a batch.
-fn begin_in(
+// Stages a candidate payload (`new`), a recovery payload (`old`) and the pairs of a batch, for a structural transaction or an
+// update-only one.
+pub fn begin_as(
     structural: bool,
     r: Record,
     candidate: &mut [u8],
@@ -66,7 +67,7 @@ pub fn begin(
         ≡ leavesOf r (begin false (now (candidate .entry)) (now (recovery .entry)) (now (table .entry))
         (now (new .entry)) (now (old .entry)) (now (pairs .entry))) ⌝ }
 {
-    begin_in(false, r, candidate, recovery, table, new, old, pairs)
+    begin_as(false, r, candidate, recovery, table, new, old, pairs)
 }
 
 // A structural transaction: the phases 1 to 7 stand about its updates.
@@ -83,7 +84,7 @@ pub fn begin_structural(
         ≡ leavesOf r (begin true (now (candidate .entry)) (now (recovery .entry)) (now (table .entry))
         (now (new .entry)) (now (old .entry)) (now (pairs .entry))) ⌝ }
 {
-    begin_in(true, r, candidate, recovery, table, new, old, pairs)
+    begin_as(true, r, candidate, recovery, table, new, old, pairs)
 }
 
 // Replaces both staged payloads.

@@ -1,8 +1,8 @@
 // The configuration transaction: every call of document 01, in one place. A call first finds its answer and its next record
 // from sizes alone, by a step of `step_begins`, `step_asks`, `step_reports`, `step_ends` or `step_stamps`; only where that is no refusal are
 // bytes moved. The steps are questions that the transaction answers under its own name, as `would_commit`: what a call would
-// answer on what it is lent, asked by those who build above before anything moves. `AREA` and `TABLE` are the
-// sizes of what is lent, which `is_area`, `is_table` and `are_pairs` ask, and `ACTIONS` the most actions.
+// answer on what it is lent, asked by those who build above before anything moves. `begin_as` is either begin, by its flag. `AREA`
+// and `TABLE` are the sizes of what is lent, which `is_area`, `is_table` and `are_pairs` ask, and `ACTIONS` the most actions.
 pub use areas::SIZE as AREA;
 pub use areas::is_sized as is_area;
 pub use batch::LIMIT as ACTIONS;
@@ -10,6 +10,7 @@ pub use batch::WORDS as TABLE;
 pub use batch::are_pairs;
 pub use batch::is_sized as is_table;
 pub use call_begins::begin;
+pub use call_begins::begin_as;
 pub use call_begins::begin_structural;
 pub use call_begins::edit;
 pub use call_begins::open;
