@@ -2,7 +2,7 @@
 -- a failure and refusals; ready for commit; being undone, and undone; and a second transaction. Assumes nothing.
 use Prim.Native.Nat.{ℕ, _+_, _≤_}
 use mathlib.Core.Path.{_≡_, refl, sym}
-use mathlib.Core.Bool.{true, false}
+use mathlib.Core.Bool.{Bool, true, false}
 use mathlib.Core.List.{List, [], _∷_, _++_, map}
 use mathlib.Core.Logic.{_≢_}
 use native.Mathlib.Omega.{arith}
@@ -55,21 +55,15 @@ pub ahead-met : (seen ahead .done ≡ settle 1 ∷ settle 2 ∷ settle 3 ∷ set
 unfolding now seen
 ahead-met = let f = demand ahead .commit-exactly refl refl in (f .order, f .exact)
 
--- lent something of a wrong size; through a log whose head is not sound; through one that is full
-abbrev misfit : Call → Sent
-misfit c = record { call = c; sized = false; sound = true; full = false }
-
-abbrev unsound : Call → Sent
-unsound c = record { call = c; sized = true; sound = false; full = false }
-
-abbrev crowded : Call → Sent
-crowded c = record { call = c; sized = true; sound = true; full = true }
+-- by whether what is lent has the right size, and the log that it goes through a sound head, and is full
+abbrev lent : Call → Bool → Bool → Bool → Sent
+lent c sized sound full = record { call = c; sized = sized; sound = sound; full = full }
 
 -- a failure, a wait, and refusals: 6, 7 and 12 of what is lent, and then 1, 4, 5, 10 and 8
 abbrev pub rough : List Sent
 rough =
     begun ++ map plainly (ask structure ∷ report (structured 2 2) 1 (Failed 9) ∷ ask structure ∷ report (structured 2 2) 2 Waiting ∷ [])
-    ++ misfit (report (structured 2 2) 2 Done) ∷ unsound (ask structure) ∷ crowded (ask structure)
+    ++ lent (report (structured 2 2) 2 Done) false true false ∷ lent (ask structure) true false false ∷ lent (ask structure) true true true
     ∷ map plainly (begin true (beginning 2 2 2) ∷ commit ∷ ask update ∷ report (structured 2 2) 2 Done ∷ edit 2 4097 ∷ [])
 
 -- none of it counts, and the due asking is granted

@@ -2,5 +2,4 @@ pub mod LoggedSteps
 pub mod LoggedChains
 pub mod LoggedOpening
 pub mod HandedOn
-pub mod Holding
 pub mod HeldTheorems
