@@ -3,12 +3,20 @@
 ghost use mathlib.Core.Path.{_≡_};
 ghost use mathlib.Core.List.{_∷_, []};
 ghost use Prim.Native.Nat.{_+_, _≤_};
+ghost use lib.Dec.{eqb};
 ghost use lib.ListN.{length, take, drop};
 ghost use lib.Seq.{paste};
-ghost use Rattle.areas.specs.Areas.{blockSize, copied, exchanged};
+ghost use Rattle.areas.specs.Areas.{areaSize, blockSize, copied, exchanged};
 
 // The bytes of an accepted, candidate, recovery or exchange area, and the longest payload.
 pub const SIZE: usize = 4096;
+
+// Whether an area of n bytes has the size of one.
+pub fn is_sized(n: usize) -> bool
+    ensures { λ b. ⌜ b ≡ eqb n areaSize ⌝ }
+{
+    n == SIZE
+}
 
 // So many bytes are copied at a time. All of them are read before the first is written, so that no turn looks whether the two
 // slices overlap.

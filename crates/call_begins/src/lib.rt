@@ -1,4 +1,5 @@
 // Opening, beginning a transaction and editing what is staged, with what is lent.
+use record::Beginning;
 use record::Findings;
 use record::Opening;
 use record::Record;
@@ -14,19 +15,15 @@ ghost use Rattle.calls.specs.Lending.Lending.{openAt, begin, edit};
 // A new record, with an accepted payload.
 pub fn open(given: Opening, accepted: &mut [u8], payload: &[u8]) -> Stepped
     ensures { λ s. ⌜ leaves (tells s) (now (accepted .exit) ∷ [])
-        ≡ leavesOf unopened (openAt (given .revision) (given .serial) (now (accepted .entry)) (now (payload .entry))) ⌝ }
+        ≡ leavesOf unopened (openAt given (now (accepted .entry)) (now (payload .entry))) ⌝ }
 {
-    let stepped = step_begins::open(accepted.len() == areas::SIZE, given, payload.len());
-    let answer = stepped.answer;
-    if answer.is_refused() {
-        return stepped;
-    }
-    areas::copy_bytes(accepted, payload);
-    stepped
+    let stepped = step_begins::open(areas::is_sized(accepted.len()), given, payload.len());
+    moves::payload(stepped, accepted, payload)
 }
 
-// Stages a candidate payload (`new`), a recovery payload (`old`) and the pairs of a batch.
-fn begin_in(
+// Stages a candidate payload (`new`), a recovery payload (`old`) and the pairs of a batch, for a structural transaction or an
+// update-only one.
+pub fn begin_as(
     structural: bool,
     r: Record,
     candidate: &mut [u8],
@@ -40,22 +37,20 @@ fn begin_in(
         ≡ leavesOf r (begin structural (now (candidate .entry)) (now (recovery .entry)) (now (table .entry))
         (now (new .entry)) (now (old .entry)) (now (pairs .entry))) ⌝ }
 {
-    let found = Findings {
-        sized: (candidate.len() == areas::SIZE)
-            & (recovery.len() == areas::SIZE)
-            & (table.len() == batch::WORDS)
-            & (pairs.len() % 2 == 0),
-        sound: true,
+    let found = Findings::of(
+        areas::is_sized(candidate.len())
+            & areas::is_sized(recovery.len())
+            & batch::is_sized(table.len())
+            & batch::are_pairs(pairs.len()),
+    );
+    let given = Beginning {
+        candidate: new.len(),
+        recovery: old.len(),
+        actions: pairs.len() / 2,
     };
-    let stepped = step_begins::begin(r, found, structural, new.len(), old.len(), pairs.len() / 2);
-    let answer = stepped.answer;
-    if answer.is_refused() {
-        return stepped;
-    }
-    areas::copy_bytes(candidate, new);
-    areas::copy_bytes(recovery, old);
-    batch::put_pairs(table, pairs);
-    stepped
+    let stepped = step_begins::begin(r, found, structural, given);
+    let staged = moves::payloads(stepped, candidate, recovery, new, old);
+    moves::pairs(staged, table, pairs)
 }
 
 // An update-only transaction.
@@ -72,7 +67,7 @@ pub fn begin(
         ≡ leavesOf r (begin false (now (candidate .entry)) (now (recovery .entry)) (now (table .entry))
         (now (new .entry)) (now (old .entry)) (now (pairs .entry))) ⌝ }
 {
-    begin_in(false, r, candidate, recovery, table, new, old, pairs)
+    begin_as(false, r, candidate, recovery, table, new, old, pairs)
 }
 
 // A structural transaction: the phases 1 to 7 stand about its updates.
@@ -89,7 +84,7 @@ pub fn begin_structural(
         ≡ leavesOf r (begin true (now (candidate .entry)) (now (recovery .entry)) (now (table .entry))
         (now (new .entry)) (now (old .entry)) (now (pairs .entry))) ⌝ }
 {
-    begin_in(true, r, candidate, recovery, table, new, old, pairs)
+    begin_as(true, r, candidate, recovery, table, new, old, pairs)
 }
 
 // Replaces both staged payloads.
@@ -97,16 +92,7 @@ pub fn edit(r: Record, candidate: &mut [u8], recovery: &mut [u8], new: &[u8], ol
     ensures { λ s. ⌜ leaves (tells s) (now (candidate .exit) ∷ now (recovery .exit) ∷ [])
         ≡ leavesOf r (edit (now (candidate .entry)) (now (recovery .entry)) (now (new .entry)) (now (old .entry))) ⌝ }
 {
-    let found = Findings {
-        sized: (candidate.len() == areas::SIZE) & (recovery.len() == areas::SIZE),
-        sound: true,
-    };
+    let found = Findings::of(areas::is_sized(candidate.len()) & areas::is_sized(recovery.len()));
     let stepped = step_begins::edit(r, found, new.len(), old.len());
-    let answer = stepped.answer;
-    if answer.is_refused() {
-        return stepped;
-    }
-    areas::copy_bytes(candidate, new);
-    areas::copy_bytes(recovery, old);
-    stepped
+    moves::payloads(stepped, candidate, recovery, new, old)
 }

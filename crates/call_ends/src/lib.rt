@@ -15,17 +15,9 @@ pub fn commit(r: Record, accepted: &mut [u8], candidate: &mut [u8]) -> Stepped
     ensures { λ s. ⌜ leaves (tells s) (now (accepted .exit) ∷ now (candidate .exit) ∷ [])
         ≡ leavesOf r (commit (now (accepted .entry)) (now (candidate .entry))) ⌝ }
 {
-    let found = Findings {
-        sized: (accepted.len() == areas::SIZE) & (candidate.len() == areas::SIZE),
-        sound: true,
-    };
+    let found = Findings::of(areas::is_sized(accepted.len()) & areas::is_sized(candidate.len()));
     let stepped = step_ends::commit(r, found);
-    let answer = stepped.answer;
-    if answer.is_refused() {
-        return stepped;
-    }
-    areas::exchange(accepted, candidate);
-    stepped
+    moves::exchange(stepped, accepted, candidate)
 }
 
 // The snapshot in the exchange area becomes the accepted payload.
@@ -33,17 +25,9 @@ pub fn recover(r: Record, accepted: &mut [u8], exchange: &mut [u8], length: usiz
     ensures { λ s. ⌜ leaves (tells s) (now (accepted .exit) ∷ now (exchange .exit) ∷ [])
         ≡ leavesOf r (recover (now (accepted .entry)) (now (exchange .entry)) length) ⌝ }
 {
-    let found = Findings {
-        sized: (accepted.len() == areas::SIZE) & (exchange.len() == areas::SIZE),
-        sound: true,
-    };
+    let found = Findings::of(areas::is_sized(accepted.len()) & areas::is_sized(exchange.len()));
     let stepped = step_ends::recover(r, found, length);
-    let answer = stepped.answer;
-    if answer.is_refused() {
-        return stepped;
-    }
-    areas::exchange(accepted, exchange);
-    stepped
+    moves::exchange(stepped, accepted, exchange)
 }
 
 // The retained recovery payload becomes the accepted one, and stays; what was accepted is handed back in the exchange area.
@@ -56,20 +40,13 @@ pub fn recover_retained(
     ensures { λ s. ⌜ leaves (tells s) (now (accepted .exit) ∷ now (recovery .exit) ∷ now (exchange .exit) ∷ [])
         ≡ leavesOf r (recoverRetained (now (accepted .entry)) (now (recovery .entry)) (now (exchange .entry))) ⌝ }
 {
-    let found = Findings {
-        sized: (accepted.len() == areas::SIZE)
-            & (recovery.len() == areas::SIZE)
-            & (exchange.len() == areas::SIZE),
-        sound: true,
-    };
+    let found = Findings::of(
+        areas::is_sized(accepted.len())
+            & areas::is_sized(recovery.len())
+            & areas::is_sized(exchange.len()),
+    );
     let stepped = step_ends::recover_retained(r, found);
-    let answer = stepped.answer;
-    if answer.is_refused() {
-        return stepped;
-    }
-    areas::copy_bytes(exchange, accepted);
-    areas::copy_bytes(accepted, recovery);
-    stepped
+    moves::replace(stepped, accepted, recovery, exchange)
 }
 
 // The snapshot in the exchange area replaces the accepted payload; no revision is made.
@@ -77,15 +54,7 @@ pub fn refresh(r: Record, accepted: &mut [u8], exchange: &mut [u8], length: usiz
     ensures { λ s. ⌜ leaves (tells s) (now (accepted .exit) ∷ now (exchange .exit) ∷ [])
         ≡ leavesOf r (refresh (now (accepted .entry)) (now (exchange .entry)) length) ⌝ }
 {
-    let found = Findings {
-        sized: (accepted.len() == areas::SIZE) & (exchange.len() == areas::SIZE),
-        sound: true,
-    };
+    let found = Findings::of(areas::is_sized(accepted.len()) & areas::is_sized(exchange.len()));
     let stepped = step_ends::refresh(r, found, length);
-    let answer = stepped.answer;
-    if answer.is_refused() {
-        return stepped;
-    }
-    areas::exchange(accepted, exchange);
-    stepped
+    moves::exchange(stepped, accepted, exchange)
 }

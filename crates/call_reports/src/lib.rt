@@ -5,6 +5,7 @@ use record::Record;
 use record::Stepped;
 ghost use mathlib.Core.Path.{_≡_};
 ghost use mathlib.Core.List.{_∷_, []};
+ghost use Prim.Native.Nat.{_-_};
 ghost use Rattle.record.specs.Answers.{tells};
 ghost use Rattle.record.specs.Leaves.{leaves};
 ghost use Rattle.calls.specs.Lending.{leavesOf};
@@ -25,18 +26,9 @@ pub fn report_structure(
         ≡ leavesOf r (report (structured (now (candidate .entry)) (now (recovery .entry)) (now (new .entry)) (now (old .entry)))
         ticket outcome) ⌝ }
 {
-    let found = Findings {
-        sized: (candidate.len() == areas::SIZE) & (recovery.len() == areas::SIZE),
-        sound: true,
-    };
+    let found = Findings::of(areas::is_sized(candidate.len()) & areas::is_sized(recovery.len()));
     let stepped = step_reports::report_structure(r, found, ticket, outcome, new.len(), old.len());
-    let answer = stepped.answer;
-    if answer.is_refused() {
-        return stepped;
-    }
-    areas::copy_bytes(candidate, new);
-    areas::copy_bytes(recovery, old);
-    stepped
+    moves::payloads(stepped, candidate, recovery, new, old)
 }
 
 // A report of an update, with the payload of the action number applied.
@@ -50,17 +42,16 @@ pub fn report_update(
     ensures { λ s. ⌜ leaves (tells s) (now (table .exit) ∷ [])
         ≡ leavesOf r (report (updated (now (table .entry)) payload) ticket outcome) ⌝ }
 {
-    let found = Findings {
-        sized: table.len() == batch::WORDS,
-        sound: true,
-    };
+    let found = Findings::of(batch::is_sized(table.len()));
     let stepped = step_reports::report_update(r, found, ticket, outcome);
-    let answer = stepped.answer;
-    if answer.is_refused() {
-        return stepped;
-    }
-    batch::store(table, r.applied, payload);
-    stepped
+    moves::store(stepped, table, r.applied, payload)
+}
+
+// The number of the last of so many actions.
+fn last(entries: u32) -> u32
+    ensures { λ n. ⌜ n ≡ entries - 1 ⌝ }
+{
+    if entries == 0 { 0 } else { entries - 1 }
 }
 
 // A report of an undoing, with the payload of the last action.
@@ -74,15 +65,7 @@ pub fn report_rollback(
     ensures { λ s. ⌜ leaves (tells s) (now (table .exit) ∷ [])
         ≡ leavesOf r (report (rolledBack (now (table .entry)) payload) ticket outcome) ⌝ }
 {
-    let found = Findings {
-        sized: table.len() == batch::WORDS,
-        sound: true,
-    };
+    let found = Findings::of(batch::is_sized(table.len()));
     let stepped = step_reports::report_rollback(r, found, ticket, outcome);
-    let answer = stepped.answer;
-    if answer.is_refused() {
-        return stepped;
-    }
-    batch::store(table, r.entries - 1, payload);
-    stepped
+    moves::store(stepped, table, last(r.entries), payload)
 }

@@ -1,18 +1,18 @@
 -- `effect_status`, `initialize_effect_status` and `cancel`, clause by clause. Assumes nothing.
 use Prim.Native.Nat.{ℕ, _+_, _/_, _%_}
-use mathlib.Core.{Path._≡_, Path.refl, Path.ap, Bool.true, Bool.false, List.List, List.[], List._∷_}
+use mathlib.Core.{Path._≡_, Path.refl, Path.ap, Path._∙_, Bool.true, List.List, List.[], List._∷_}
 use lib.Dec.{eqb}
 use lib.ListN.{getD, length-set}
 use lib.Seq.{getD-set-same, getD-set-other}
-use borrow.Author.Tests.{eq-eqb, eqb-true, ltb-false, le-leb, leb-false, not-true, not-false}
+use borrow.Author.Tests.{eq-eqb, le-leb, leb-false, not-true, not-false}
 use Rattle.choice.specs.Pick.{pick, _and_, _or_}
-use Rattle.choice.proofs.{Picks.picked, Tests.tests, Tests.never, Tests.both, Tests.join}
+use Rattle.choice.proofs.{Picks.picked, Tests.tests, Tests.never, Tests.both, Tests.neither, Tests.join}
 use Rattle.record.specs.{Classes.refused, Classes.Class.performed, Answers.said}
 use Rattle.record.specs.declared.Refusal.{Refusal}
-use Rattle.status.specs.{Status.StatusCall, Status.Marks, Status.leavesMarks, Status.linked, Status.bytesSound, Status.entryOf, Status.put}
-use Rattle.status.specs.{Status.withInitialized, Status.withCancelled, Status.allowed, Status.next, Status.marking, Status.marksOf}
-use Rattle.status.specs.{Status.StatusCall.initialize}
-use Rattle.status.specs.declared.{Entry.Entry, Entry.the-variants.At, Entry.the-variants.No}
+use Rattle.status.specs.{Status.Marks, Status.leavesMarks, Status.groupLive, Status.groupSettled, Status.markLinked, Status.markCancelled}
+use Rattle.status.specs.{Status.markInitialized, Status.markFinished, Status.markMost, Status.has, Status.with, Status.bytesSound, Status.entryOf, Status.put}
+use Rattle.status.specs.{Status.marking, Status.marksOf}
+use Rattle.status.specs.declared.{StatusCall.StatusCall, StatusCall.the-variants.Initialize, Entry.Entry, Entry.the-variants.At, Entry.the-variants.No}
 use Rattle.demand_steps.proofs.Testing.{right}
 use Rattle.clauses.specs.Status.{Place, MarkClauses, Initializes, Cancels}
 use Rattle.clauses.proofs.Splitting.{clash}
@@ -26,22 +26,14 @@ module _ (groups status : List ℕ) (id : ℕ) where
   found : Found (entryOf groups status id)
   unfolding entryOf
   found =
-      picked Found _ (λ e. none _ (λ x. clash _ (eq-eqb _ _ (x .same)) (not-true _ e))) (λ e₁. picked Found _ (λ e. none _ (λ x. omega (tests, x .some))) (λ e₂.
-      picked Found _ (λ e. none _ (λ x. omega (tests, x .few))) (λ e₃. picked Found _ (λ e. none _ (λ x. omega (tests, x .real))) (λ e₄.
-      picked Found _ (λ e. none _ (λ x. omega (tests, x .inside))) (λ e₅. picked Found _ (λ e. there (record {
-        same = eqb-true _ _ (not-false _ e₁);
-        some = ltb-false _ _ e₂;
-        few = ltb-false _ _ e₃;
-        real = ltb-false _ _ e₄;
-        inside = leb-false _ _ e₅;
-        sound = e;
-      })) (λ e. none _ (λ x. clash _ (x .sound) e)))))))
+      picked Found _ (λ e. none _ (λ x. clash _ e (x .sized))) (λ e₁. picked Found _ (λ e. none _ (λ x. clash _ e (x .inside))) (λ e₂.
+      picked Found _ (λ e. none _ (λ x. clash _ (x .sound) (not-true _ e))) (λ e. there (record { sized = e₁; inside = e₂; sound = not-false _ e }))))
 
   module _ (c : StatusCall) where
     abbrev Clauses : Marks → Type 0
     Clauses = MarkClauses groups status id c
 
-    marks : {e : Entry} → Found e → Clauses (marking e status (allowed c) (next c))
+    marks : {e : Entry} → Found e → Clauses (marking c status e)
     unfolding marking put
     marks (none why f) = record {
       c400 = (λ i. never (ap refused i), λ x. absurd (f (x .0)));
@@ -56,7 +48,7 @@ module _ (groups status : List ℕ) (id : ℕ) where
         }) (λ e. record {
           c400 = (λ i. (p, not-false _ e), λ x. refl);
           c407 = λ i. record {
-            there = getD-set-same status id _ 0 (p .inside);
+            there = getD-set-same status id _ 0 (leb-false _ _ (neither (p .inside) .1));
             others = λ j n. getD-set-other status id j _ 0 n;
             size = length-set status id _;
           };
@@ -66,35 +58,53 @@ module _ (groups status : List ℕ) (id : ℕ) where
     pub status-clauses : Clauses (marksOf groups status id c)
     status-clauses = marks found
 
--- each flag is set alone
-pub initialized-alone : (mark : ℕ) → Initializes mark (withInitialized mark)
-unfolding withInitialized
-initialized-alone mark = picked (Initializes mark) _ (λ (e : eqb (mark / 4 % 2) 1 ≡ true). omega tests) (λ (e : eqb (mark / 4 % 2) 1 ≡ false). omega tests)
+same-flag : (bit a b : ℕ) → a / bit % 2 ≡ b / bit % 2 → has bit a ≡ has bit b
+unfolding has
+same-flag bit a b = ap (λ (k : ℕ). eqb k 1)
 
-pub cancelled-alone : (mark : ℕ) → Cancels mark (withCancelled mark)
-unfolding withCancelled
-cancelled-alone mark = picked (Cancels mark) _ (λ (e : eqb (mark / 2 % 2) 1 ≡ true). omega tests) (λ (e : eqb (mark / 2 % 2) 1 ≡ false).
-    let h : (mark + 2) / 4 ≡ mark / 4 = omega tests in
-    record { linked = omega tests; c388 = omega tests; initialized = ap (λ (k : ℕ). k % 2) h; finished = omega tests })
+-- each flag is set alone
+pub initialized-alone : (mark : ℕ) → Initializes mark (with markInitialized mark)
+unfolding with has
+initialized-alone mark =
+    picked (Initializes mark) _ (λ e. record { linked = refl; cancelled = refl; c412 = e; finished = refl }) (λ e. record {
+      linked = same-flag markLinked (mark + markInitialized) mark (omega tests);
+      cancelled = same-flag markCancelled (mark + markInitialized) mark (omega tests);
+      c412 = eq-eqb ((mark + markInitialized) / markInitialized % 2) 1 (omega tests);
+      finished = omega tests;
+    })
+
+pub cancelled-alone : (mark : ℕ) → Cancels mark (with markCancelled mark)
+unfolding with has
+cancelled-alone mark =
+    picked (Cancels mark) _ (λ e. record { linked = refl; c388 = e; initialized = refl; finished = refl }) (λ e. record {
+      linked = same-flag markLinked (mark + markCancelled) mark (omega tests);
+      c388 = eq-eqb ((mark + markCancelled) / markCancelled % 2) 1 (omega tests);
+      initialized =
+          let h : (mark + markCancelled) / markInitialized ≡ mark / markInitialized = omega tests in
+          same-flag markInitialized (mark + markCancelled) mark (ap (λ (k : ℕ). k % 2) h);
+      finished = omega tests;
+    })
 
 -- where the bytes of an id are sound, they stay so: a new link, and a linked byte of which one flag is set
-pub linked-sound : (group mark : ℕ) → bytesSound group mark ≡ true → bytesSound group 1 ≡ true
-unfolding bytesSound
+pub linked-sound : (group mark : ℕ) → bytesSound group mark ≡ true → bytesSound group markLinked ≡ true
+unfolding bytesSound has
 linked-sound group mark e = join (join (both (both e .0) .0) refl) (right _ refl)
 
-sound-after : (group mark after : ℕ) → bytesSound group mark ≡ true → linked mark ≡ true → after % 2 ≡ mark % 2 → after / 8 ≡ mark / 8 → bytesSound group after ≡ true
+sound-after : (group mark after : ℕ) → bytesSound group mark ≡ true → has markLinked mark ≡ true → has markLinked after ≡ has markLinked mark
+    → after / markFinished ≡ mark / markFinished → bytesSound group after ≡ true
 unfolding bytesSound
 sound-after group mark after e l p q =
     let x = both (both e .0) in
-    join (join (x .0) (le-leb after 15 (omega (tests, x .1)))) (right _ (eq-eqb (after % 2) 1 (omega tests)))
+    join (join (x .0) (le-leb after markMost (omega (tests, x .1)))) (right _ (p ∙ l))
 
-pub initialized-sound : (group mark : ℕ) → bytesSound group mark ≡ true → linked mark ≡ true → bytesSound group (withInitialized mark) ≡ true
+pub initialized-sound : (group mark : ℕ) → bytesSound group mark ≡ true → has markLinked mark ≡ true → bytesSound group (with markInitialized mark) ≡ true
 initialized-sound group mark e l = let x = initialized-alone mark in sound-after group mark _ e l (x .linked) (x .finished)
 
-pub cancelled-sound : (group mark : ℕ) → bytesSound group mark ≡ true → linked mark ≡ true → bytesSound group (withCancelled mark) ≡ true
+pub cancelled-sound : (group mark : ℕ) → bytesSound group mark ≡ true → has markLinked mark ≡ true → bytesSound group (with markCancelled mark) ≡ true
 cancelled-sound group mark e l = let x = cancelled-alone mark in sound-after group mark _ e l (x .linked) (x .finished)
 
 -- initializing is not always refused: a live and settled group, linked
-pub initialize-possible : marksOf (0 ∷ 3 ∷ []) (0 ∷ 1 ∷ []) 1 initialize ≡ leavesMarks (said performed []) (0 ∷ 5 ∷ [])
-unfolding entryOf bytesSound marking put withInitialized pick _and_ _or_
+pub initialize-possible : marksOf (0 ∷ (groupLive + groupSettled) ∷ []) (0 ∷ markLinked ∷ []) 1 Initialize
+    ≡ leavesMarks (said performed []) (0 ∷ (markLinked + markInitialized) ∷ [])
+unfolding entryOf bytesSound marking put with has pick _and_ _or_
 initialize-possible = refl

@@ -1,20 +1,18 @@
 -- The clauses of `effect_status`, `initialize_effect_status` and `cancel`: v is what the call answers and leaves. Assumes nothing.
-use Prim.Native.Nat.{ℕ, _/_, _%_, _≤_, _<_}
+use Prim.Native.Nat.{ℕ, _/_}
 use mathlib.Core.Path.{_≡_}
-use mathlib.Core.Bool.{true}
+use mathlib.Core.Bool.{true, false}
 use mathlib.Core.List.{List}
 use mathlib.Core.Logic.{_≢_, _↔_}
 use lib.ListN.{length, getD}
 use Rattle.record.specs.Classes.Class.{performed}
-use Rattle.status.specs.Status.{StatusCall, Marks, allowed, next, bytesSound}
+use Rattle.status.specs.Status.{Marks, markLinked, markCancelled, markInitialized, markFinished, has, otherLengths, outside, bytesSound, allowed, next}
+use Rattle.status.specs.declared.StatusCall.{StatusCall}
 
 -- where 6, 7 and the id's 13 are not given
 pub record Place (groups status : List ℕ) (id : ℕ) : Type 0 where
-  pub same : length groups ≡ length status
-  pub some : 1 ≤ length status
-  pub few : length status ≤ 256
-  pub real : 1 ≤ id
-  pub inside : id < length status
+  pub sized : otherLengths groups status ≡ false
+  pub inside : outside status id ≡ false
   pub sound : bytesSound (getD groups id 0) (getD status id 0) ≡ true
 
 -- the byte at the id is the mark, and every other stays
@@ -34,14 +32,14 @@ pub record MarkClauses (groups status : List ℕ) (id : ℕ) (c : StatusCall) (v
 
 -- the flags of a byte, linked, cancelled, initialized and finished: the initialized one is set alone
 pub record Initializes (mark after : ℕ) : Type 0 where
-  pub linked : after % 2 ≡ mark % 2
-  pub cancelled : after / 2 % 2 ≡ mark / 2 % 2
-  pub c412 : after / 4 % 2 ≡ 1
-  pub finished : after / 8 ≡ mark / 8
+  pub linked : has markLinked after ≡ has markLinked mark
+  pub cancelled : has markCancelled after ≡ has markCancelled mark
+  pub c412 : has markInitialized after ≡ true
+  pub finished : after / markFinished ≡ mark / markFinished
 
 -- and the cancelled one. Upstream the other flags are free
 pub record Cancels (mark after : ℕ) : Type 0 where
-  pub linked : after % 2 ≡ mark % 2
-  pub c388 : after / 2 % 2 ≡ 1
-  pub initialized : after / 4 % 2 ≡ mark / 4 % 2
-  pub finished : after / 8 ≡ mark / 8
+  pub linked : has markLinked after ≡ has markLinked mark
+  pub c388 : has markCancelled after ≡ true
+  pub initialized : has markInitialized after ≡ has markInitialized mark
+  pub finished : after / markFinished ≡ mark / markFinished

@@ -4,13 +4,15 @@ use Prim.Native.Nat.{ℕ}
 use mathlib.Core.Path.{_≡_, refl}
 use mathlib.Core.Bool.{Bool, true}
 use mathlib.Core.List.{List, map}
+use native.Mathlib.Omega.{arith}
 use Rattle.choice.specs.Pick.{pick, _and_, _or_, _implies_}
 use Rattle.phases.specs.Phases.{hasSuccessor, successor, boundary}
 use Rattle.areas.specs.Areas.{long, sized, copied}
 use Rattle.batch.specs.Batch.{tableSized, paired, pairsIn, stored}
-use Rattle.record.specs.Classes.{refused, stepWritten, callWritten}
+use Rattle.record.specs.Classes.{successful, granted, entered}
 use Rattle.record.specs.Answers.{Told}
 use Rattle.record.specs.Live.{isLive}
+use Rattle.record.specs.Given.{at}
 use Rattle.record.specs.Fields.{adopting}
 use Rattle.record.specs.declared.Record.{Record}
 use Rattle.wholeness.specs.Whole.{lengthsFit, countsFit, stagedFits, forwardFits, backFits, restoringFits, liveFits, whole, complete}
@@ -19,10 +21,10 @@ use Rattle.step_begins.specs.Opening.{opening, openStep}
 use Rattle.step_begins.specs.Beginning.{firstPhase, begun, beginOwn, editOwn}
 use Rattle.step_asks.specs.Asks.{askStructureOwn, askUpdateOwn, askRollbackOwn, turned}
 use Rattle.step_reports.specs.Done.{onward, advanced, structureDone, updateDone, least, leaving, rollbackDone}
-use Rattle.step_reports.specs.Reports.{behind, reportGate, reported, reportStructureOwn}
+use Rattle.step_reports.specs.Reports.{reported, reportStructureOwn, reportUpdateOwn, reportRollbackOwn}
 use Rattle.step_ends.specs.Ending.{idleAt, commitOwn, unrestored, recoverOwn, recoverRetainedOwn, refreshOwn}
 use Rattle.step_stamps.specs.Stamping.{stampStep, passes, checkStep}
-use Rattle.log.specs.Log.{logSized, headSound, sound, full, appended, blank}
+use Rattle.log.specs.Log.{logSized, sound, full, appended, blank}
 use Rattle.events.specs.Entries.{noted}
 use Rattle.noting.specs.Recorded.{withLog, recorded}
 use Rattle.noting.specs.Through.{leavesThrough}
@@ -32,22 +34,24 @@ use Rattle.demand_logs.specs.Logged.{Logged, loggedStep, logged, events}
 use Rattle.demand_logs.specs.Holding.{Held, Doing, afterHeld, heardHeld}
 use Rattle.demand_chains.specs.Sending.{Sent, answered, afterSent, heardSent}
 use Rattle.demand_steps.specs.Watching as W
-use Rattle.demand_steps.specs.Watching.{Heard, hears, Watch, performed, granted, sees, watch, unwatched}
+use Rattle.demand_steps.specs.Watching.{Heard, Watch, sees, watch, unwatched}
+use Rattle.demand_chains.specs.DemandThree.{DemandThree}
+use Rattle.demand_chains.proofs.Theorems.{demands}
 
 -- a call on a record
 unfoldable pub called : Record → Call → Told
-unfolding pick _and_ _or_ _implies_ hasSuccessor successor boundary long isLive adopting lengthsFit countsFit stagedFits forwardFits backFits restoringFits liveFits whole complete gateOf gated opening openStep firstPhase begun beginOwn editOwn askStructureOwn askUpdateOwn askRollbackOwn turned onward advanced structureDone updateDone least leaving rollbackDone behind reportGate reported reportStructureOwn idleAt commitOwn unrestored recoverOwn recoverRetainedOwn refreshOwn stampStep passes checkStep
+unfolding pick _and_ _or_ _implies_ hasSuccessor successor boundary long isLive adopting lengthsFit countsFit stagedFits forwardFits backFits restoringFits liveFits whole complete gateOf gated opening openStep firstPhase begun beginOwn editOwn askStructureOwn askUpdateOwn askRollbackOwn turned onward advanced structureDone updateDone least leaving rollbackDone reported reportStructureOwn reportUpdateOwn reportRollbackOwn idleAt commitOwn unrestored recoverOwn recoverRetainedOwn refreshOwn stampStep passes checkStep
 called r c = step r c
 
 abbrev pub performs : Record → Call → Bool
-performs r c = performed (hears c (called r c) .answer)
+performs r c = successful (called r c .class)
 
 abbrev pub grants : Record → Call → Bool
-grants r c = granted (hears c (called r c) .answer)
+grants r c = granted (called r c .class)
 
 -- a chain of calls as they are sent: the record that is reached, what the watcher then knows, and the numbers that are answered
 unfoldable pub reached : Record → List Sent → Record
-unfolding called kindOf writtenAs answered afterSent
+unfolding called entered kindOf writtenAs answered afterSent
 reached r ss = afterSent r ss
 
 unfoldable pub known : Watch → Record → List Sent → Watch
@@ -60,7 +64,7 @@ numbers r ss = map (λ (h : Heard). h .answer .number) (heardSent r ss)
 
 -- a chain through the recorder, an opening before it, and the events of the plain one
 unfoldable pub throughLog : Record → List ℕ → List Call → Logged
-unfolding reached logSized headSound sound full appended blank sized withLog recorded leavesThrough noted events loggedStep logged
+unfolding reached logSized sound full appended blank sized withLog recorded leavesThrough noted events loggedStep logged
 throughLog r log cs = logged r log cs
 
 -- a chain of real calls
@@ -74,9 +78,9 @@ heldSeen h ds = watch unwatched (heardHeld h ds)
 
 -- from an opening at revision 7 and serial 0, with a payload of 3 bytes, which is not refused
 abbrev pub start : Record
-start = openStep true 7 0 3 .state
+start = openStep true (at 7 0) 3 .state
 
-pub opens : openStep true 7 0 3 .number ≡ 0
+pub opens : successful (openStep true (at 7 0) 3 .class) ≡ true
 unfolding called
 opens = refl
 
@@ -87,3 +91,8 @@ now ss = reached start ss
 unfoldable pub seen : List Sent → Watch
 unfolding known unwatched
 seen ss = known unwatched start ss
+
+-- demand 3, of every chain from there
+pub demand : (ss : List Sent) → DemandThree 7 (now ss) (seen ss)
+unfolding now seen
+demand ss = demands true (at 7 0) 3 (omega arith) opens ss

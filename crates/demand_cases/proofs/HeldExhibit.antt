@@ -1,39 +1,49 @@
--- A chain of real calls to which the theorems on such chains are applied: the caller holds an exchange area that is a byte short and a
--- log with room for one event, so that a recovery is answered 6 and an asking 12; an update fails and is then done. Assumes nothing.
+-- Chains of real calls to which the theorems on such chains are applied. In one the caller holds an exchange area that is a byte short
+-- and a log with room for one event, so that a recovery is answered 6 and an asking 12; an update fails and is then done. The other is
+-- document 01's, "The log": its sixteen words, computed from the definitions. Assumes nothing.
 use Prim.Native.Nat.{ℕ}
 use mathlib.Core.Path.{_≡_, refl}
 use mathlib.Core.Bool.{true, false}
 use mathlib.Core.List.{List, [], _∷_, _++_, map}
 use lib.ListN.{getD, replicate}
 use native.Mathlib.Omega.{arith}
-use Rattle.record.specs.Answers.{said}
+use Rattle.record.specs.Answers.{saidOf}
 use Rattle.record.specs.Leaves.{Leaves}
+use Rattle.record.specs.Given.{at}
 use Rattle.record.specs.declared.Outcome.the-variants.{Failed, Done}
+use Rattle.step_stamps.specs.Stamping.{saysChecked}
+use Rattle.step_stamps.specs.declared.Checked.the-variants.{Fails}
 use Rattle.log.specs.Log.{blank}
 use Rattle.calls.specs.Calls.{Call}
 use Rattle.calls.specs.Calls.Work.{update}
 use Rattle.calls.specs.Lending.{Lending, leavesOf, unopened}
-use Rattle.demand_steps.specs.Watching.{Heard, hears}
+use Rattle.noting.specs.Through.{leavesThrough}
+use Rattle.demand_steps.specs.Watching.{Heard}
 use Rattle.demand_steps.specs.Watching.Item.{apply}
 use Rattle.demand_chains.specs.Promises.{stampPasses}
+use Rattle.demand_chains.specs.DemandThree.{DemandThree}
 use Rattle.demand_logs.specs.Holding.{Held, Doing, holding, heardHeld}
 use Rattle.demand_logs.specs.Holding.Payload.{updated}
 use Rattle.demand_logs.specs.Holding.Given.{begin, ask, report, commit, recover}
 use Rattle.demand_logs.specs.Holding.Doing.{transacts, records}
-use Rattle.demand_logs.proofs.HeldTheorems.{held-stamps, held-demands}
+use Rattle.demand_logs.proofs.HeldTheorems.{held-stamps, held-demands, held-demands-logged}
+use Rattle.demand_cases.specs.Cases.{taken}
 use Rattle.demand_cases.proofs.Computing.{called, performs, heldAfter, heldSeen}
 
 abbrev area : List ℕ
 area = replicate 4096 0
 
+abbrev table : List ℕ
+table = replicate 128 0
+
 abbrev payload : List ℕ
 payload = 1 ∷ 2 ∷ 3 ∷ []
 
 abbrev opened : Leaves
-opened = leavesOf unopened (Lending.openAt 7 0 area payload)
+opened = leavesOf unopened (Lending.openAt (at 7 0) area payload)
 
 abbrev pub held : Held
-held = holding (opened .told .state) (getD (opened .lent) 0 []) area area (replicate 4095 0) (replicate 128 0) (blank (replicate 8 0))
+held = holding (opened .told .state) (getD (opened .lent) 0 []) area area (replicate 4095 0) table (blank (replicate 8 0))
 
 abbrev pub working : List Doing
 working =
@@ -55,10 +65,28 @@ pub held-met : (heldSeen held working .done ≡ apply 0 ∷ []) × (performs (he
     × (heldAfter held ended .state .revision ≡ 8)
 unfolding heldAfter heldSeen
 held-met =
-    let f = held-demands held working 7 0 area payload (omega arith) refl refl .commit-exactly refl refl in
-    (f .order, f .exact, held-demands held ended 7 0 area payload (omega arith) refl refl .revision-law)
+    let f = held-demands held working (at 7 0) area payload (omega arith) refl refl .commit-exactly refl refl in
+    (f .order, f .exact, held-demands held ended (at 7 0) area payload (omega arith) refl refl .revision-law)
 
 -- so that a stamp that was taken at the opening fails
-pub held-stamp-met : hears (Call.check 3 3 7) (called (heldAfter held ended .state) (Call.check 3 3 7)) .answer ≡ said 0 (0 ∷ [])
+pub held-stamp-met : saidOf (called (heldAfter held ended .state) (Call.check 3 taken)) ≡ saysChecked Fails
 unfolding heldAfter heldSeen stampPasses
-held-stamp-met = held-stamps held ended 3 3 7 3 (omega arith) refl
+held-stamp-met = held-stamps held ended 3 taken 3 (omega arith) refl
+
+-- "Room 3, opened at 0 and 0", a log with something in it; "update-only begin without actions, commit"
+abbrev pub openedLog : Leaves
+openedLog = leavesThrough unopened (replicate 16 7) (Lending.openAt (at 0 0) area [])
+
+abbrev pub heldLog : Held
+heldLog = holding (openedLog .told .state) (getD (openedLog .lent) 1 []) area area area table (getD (openedLog .lent) 0 [])
+
+abbrev pub calls : List Doing
+calls = records (begin false [] [] []) ∷ records commit ∷ []
+
+pub logbook : heldAfter heldLog calls .log ≡ 2 ∷ 4 ∷ 3 ∷ 0 ∷ 1 ∷ 0 ∷ 0 ∷ 0 ∷ 9 ∷ 0 ∷ 0 ∷ 1 ∷ 0 ∷ 0 ∷ 0 ∷ 0 ∷ []
+unfolding heldAfter
+logbook = refl
+
+pub logbook-met : DemandThree 0 (heldAfter heldLog calls .state) (heldSeen heldLog calls)
+unfolding heldAfter heldSeen
+logbook-met = held-demands-logged heldLog calls (at 0 0) area [] (omega arith) (replicate 16 7) refl refl

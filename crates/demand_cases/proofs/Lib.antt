@@ -3,8 +3,6 @@ pub mod Exhibits
 pub mod Computing
 pub mod Courses
 pub mod Leading
-pub mod Stamped
 pub mod Stored
 pub mod LoggedExhibit
-pub mod Logbook
 pub mod HeldExhibit

@@ -7,9 +7,12 @@ use mathlib.Core.Bool.{true, false}
 use mathlib.Core.List.{List, [], _∷_, _++_, map}
 use lib.ListN.{replicate}
 use native.Mathlib.Omega.{arith}
-use Rattle.record.specs.Answers.{Said, said}
+use Rattle.record.specs.Answers.{Said, says}
+use Rattle.record.specs.Given.{at, beginning}
 use Rattle.record.specs.Leaves.{Leaves}
 use Rattle.record.specs.declared.Outcome.the-variants.{Done}
+use Rattle.record.specs.declared.Answer.the-variants.{Refused, Ticket, Finished}
+use Rattle.record.specs.declared.Refusal.the-variants.{Pending, NotReady, LogFull}
 use Rattle.wholeness.specs.Whole.{whole}
 use Rattle.log.specs.Log.{logWidth, wordsOf, sound, blank}
 use Rattle.events.specs.Entries.{entry, entries, logOf}
@@ -21,14 +24,14 @@ use Rattle.calls.specs.Calls.Call.{begin, ask, report, edit, commit, stamp}
 use Rattle.calls.specs.Lending.{Lending, unopened}
 use Rattle.demand_steps.specs.Watching.{Heard}
 use Rattle.demand_logs.specs.Logged.{Logged, logged, events}
-use Rattle.demand_logs.proofs.LoggedChains.{Same, same-chain}
-use Rattle.demand_logs.proofs.LoggedWhole.{logged-chain}
+use Rattle.demand_logs.proofs.LoggedSteps.{log-full-changes-nothing}
+use Rattle.demand_logs.proofs.LoggedChains.{Same, same-chain, logged-chain}
 use Rattle.demand_logs.proofs.LoggedOpening.{from-opening}
-use Rattle.demand_logs.proofs.LogFull.{log-full-changes-nothing}
+use Rattle.demand_cases.specs.Cases.{done}
 use Rattle.demand_cases.proofs.Computing.{throughLog, start}
 
 abbrev pub before : List Call
-before = begin false 2 2 1 ∷ begin false 2 2 1 ∷ ask structure ∷ commit ∷ edit 3 3 ∷ ask update ∷ report updated 1 Done ∷ stamp 3 ∷ []
+before = begin false (beginning 2 2 1) ∷ begin false (beginning 2 2 1) ∷ ask structure ∷ commit ∷ edit 3 3 ∷ ask update ∷ report updated 1 Done ∷ stamp 3 ∷ []
 
 abbrev pub chain : List Call
 chain = before ++ commit ∷ []
@@ -44,7 +47,7 @@ answers hs = map (λ (h : Heard). h .answer) hs
 pub computed : (events start chain ≡ entry 1 0 0 7 ∷ entry 3 4 0 7 ∷ entry 5 20 1 7 ∷ entry 6 24 1 7 ∷ entry 9 0 1 8 ∷ [])
     × (throughLog start (roomFor 5) chain .log ≡ 5 ∷ 4 ∷ 5 ∷ 0 ∷ 1 ∷ 0 ∷ 0 ∷ 7 ∷ 3 ∷ 4 ∷ 0 ∷ 7 ∷ 5 ∷ 20 ∷ 1 ∷ 7 ∷ 6 ∷ 24 ∷ 1 ∷ 7 ∷ 9 ∷ 0 ∷ 1 ∷ 8 ∷ [])
     × (answers (throughLog start (roomFor 4) chain .heard)
-    ≡ said 0 [] ∷ said 1 [] ∷ said 4 [] ∷ said 4 [] ∷ said 0 [] ∷ said 20 (1 ∷ 0 ∷ []) ∷ said 24 [] ∷ said 1 [] ∷ said 12 [] ∷ [])
+    ≡ done ∷ says (Refused Pending) ∷ says (Refused NotReady) ∷ says (Refused NotReady) ∷ done ∷ says (Ticket 1 0) ∷ says Finished ∷ says (Refused Pending) ∷ says (Refused LogFull) ∷ [])
 unfolding throughLog
 computed = (refl, refl, refl)
 
@@ -68,9 +71,9 @@ full-met = log-full-changes-nothing (full .state) (full .log) commit refl
 
 -- and from an opening through the recorder, whatever stood in the log
 abbrev opened : Leaves
-opened = leavesThrough unopened (replicate 24 7) (Lending.openAt 7 0 (replicate 4096 0) (1 ∷ 2 ∷ 3 ∷ []))
+opened = leavesThrough unopened (replicate 24 7) (Lending.openAt (at 7 0) (replicate 4096 0) (1 ∷ 2 ∷ 3 ∷ []))
 
 pub opening-met : Same (opened .told .state) (logOf opened) chain
     × (entries (logged (opened .told .state) (logOf opened) chain .log) ≡ entry 1 0 0 7 ∷ entry 3 4 0 7 ∷ entry 5 20 1 7 ∷ entry 6 24 1 7 ∷ entry 9 0 1 8 ∷ [])
 unfolding throughLog
-opening-met = from-opening 7 0 (replicate 24 7) (replicate 4096 0) (1 ∷ 2 ∷ 3 ∷ []) refl chain (omega arith)
+opening-met = from-opening (at 7 0) (replicate 24 7) (replicate 4096 0) (1 ∷ 2 ∷ 3 ∷ []) refl chain (omega arith)

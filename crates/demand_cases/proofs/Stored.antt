@@ -19,7 +19,8 @@ use Rattle.demand_chains.specs.Starting.{watchOf}
 use Rattle.demand_chains.specs.Promises.{Asking}
 use Rattle.demand_chains.specs.Progress.{DoneReport, Counts, Finishes}
 use Rattle.demand_chains.specs.Turning.{recoveredIn}
-use Rattle.demand_chains.proofs.From.{revision-from, commit-from, recovery-from, never-locked-from, progress-from, finishes-from, until-recovery-from, recovery-back-from, recovery-early-from}
+use Rattle.demand_chains.specs.DemandThree.{DemandThree}
+use Rattle.demand_chains.proofs.From.{demands-from}
 use Rattle.demand_cases.proofs.Exhibits.{staged, updating}
 use Rattle.demand_cases.proofs.Computing.{called, performs, reached, known}
 use Rattle.demand_cases.proofs.Courses.{settles}
@@ -36,6 +37,11 @@ pub updating-whole : whole updating ≡ true
 unfolding now
 updating-whole = refl
 
+-- demand 3, of every chain from there
+demand : (ss : List Sent) → DemandThree 7 (now ss) (seen ss)
+unfolding now seen
+demand ss = demands-from updating (omega arith) updating-whole ss
+
 -- two of three updates done after a report, six of 5 + 3: commit and recovery are refused, and the next update leads on
 abbrev carried : List Sent
 carried = plainly (report updated 1 Done) ∷ []
@@ -45,13 +51,13 @@ pub staged-met : (seen carried .done ≡ settle 1 ∷ settle 2 ∷ settle 3 ∷ 
     × Counts (now carried) (seen carried) (ask update) (report updated 2 Done) × Finishes (now carried) (seen carried)
 unfolding now seen due
 staged-met =
-    let f = commit-from updating (omega arith) updating-whole carried refl refl in (
+    let f = demand carried .commit-exactly refl refl in (
       f .order,
       f .exact,
-      recovery-early-from updating (omega arith) updating-whole carried refl refl .retained,
-      never-locked-from updating (omega arith) updating-whole carried refl (λ t. eqb-ne _ _ refl) (λ t. never (sym t)),
-      progress-from updating (omega arith) updating-whole carried (ask update) refl .counts 2 2 _ refl DoneReport.forUpdate,
-      finishes-from updating (omega arith) updating-whole carried refl (omega arith),
+      demand carried .recovery-early refl refl .retained,
+      demand carried .never-locked refl (λ t. eqb-ne _ _ refl) (λ t. never (sym t)),
+      demand carried .progress (ask update) refl .counts 2 2 _ refl DoneReport.forUpdate,
+      demand carried .finishes refl (omega arith),
     )
 
 -- all done: 5 + 3 reports, and then the commit
@@ -62,8 +68,8 @@ pub finished-met : (seen finished .done ≡ settle 1 ∷ settle 2 ∷ settle 3 �
     × (performs (now finished) commit ≡ true) × (now (finished ++ plainly commit ∷ []) .revision ≡ 8)
 unfolding now seen
 finished-met =
-    let f = commit-from updating (omega arith) updating-whole finished refl refl in
-    (f .order, f .exact, revision-from updating (omega arith) updating-whole (finished ++ plainly commit ∷ []))
+    let f = demand finished .commit-exactly refl refl in
+    (f .order, f .exact, demand (finished ++ plainly commit ∷ []) .revision-law)
 
 -- rolled back with two started, and all undone: 2 + 4 reports; the way back has no commit
 abbrev turned : List Sent
@@ -79,9 +85,9 @@ pub undoing-met : (seen (turned ++ undoing) .undone ≡ undo 1 ∷ undo 0 ∷ se
     × (called (now (turned ++ undoing)) commit .number ≡ 4)
 unfolding now seen recoveredIn
 undoing-met =
-    let b = recovery-from updating (omega arith) updating-whole (turned ++ undoing) refl refl in (
+    let b = demand (turned ++ undoing) .recovery-exactly refl refl in (
       b .order,
       b .exact,
-      recovery-back-from updating (omega arith) updating-whole (turned ++ undoing) refl refl .given 4097,
-      until-recovery-from updating (omega arith) updating-whole turned undoing refl refl refl .uncommitted,
+      demand (turned ++ undoing) .recovery-back refl refl .given 4097,
+      demand turned .until-recovery undoing refl refl refl .uncommitted,
     )

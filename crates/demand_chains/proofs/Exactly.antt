@@ -8,14 +8,12 @@ use lib.Dec.{eqb, ltb}
 use lib.ListN.{length, length-append}
 use borrow.Author.Tests.{eq-eqb, ne-eqb, lt-ltb, le-ltb}
 use Rattle.choice.specs.Pick.{pick, _and_, _or_}
-use Rattle.record.specs.Answers.{Told, answer, refuse}
+use Rattle.record.specs.Classes.{successful}
+use Rattle.record.specs.Answers.{Told, refuse}
 use Rattle.record.specs.declared.Record.{Record}
-use Rattle.record.specs.declared.Was.{Was}
-use Rattle.record.specs.declared.Was.the-variants.{Three}
-use Rattle.record.specs.declared.Answer.the-variants.{Done}
 use Rattle.record.specs.declared.Refusal.the-variants.{Idle, NotReady}
 use Rattle.wholeness.specs.Whole.{complete}
-use Rattle.step_ends.specs.Ending.{idleAt, commitOwn, unrestored, recoverRetainedOwn}
+use Rattle.step_ends.specs.Ending.{commitOwn, unrestored, recoverRetainedOwn}
 use Rattle.calls.specs.Calls.{step}
 use Rattle.calls.specs.Calls.Call.{commit, recoverRetained}
 use Rattle.demand_steps.specs.Watching.{Item, Watch}
@@ -34,32 +32,40 @@ length-firsts : (plan : ℕ → Item) (m : ℕ) → length (firsts plan m) ≡ m
 length-firsts plan zero = refl
 length-firsts plan (suc m) = simp (length-append, length-firsts plan m) (omega arith)
 
--- the answer of a call that is refused 2, and then 4 if d or not q, as a test
-closes : (s d q : Bool) (r x : Record) (was : Was) → s ≡ true →
-    eqb ((pick (not s) (refuse Idle r) (pick (d or not q) (refuse NotReady r) (answer (Done was) x))) .number) 0 ≡ q && not d
-unfolding pick _or_
-closes s true true r x was e = rw e
-closes s true false r x was e = rw e
-closes s false true r x was e = rw e
-closes s false false r x was e = rw e
+-- the answer of a call that is refused 2, and then 4 if u, as a test
+closes : (s u : Bool) (r : Record) (x : Told) → s ≡ true → successful (x .class) ≡ true →
+    successful ((pick (not s) (refuse Idle r) (pick u (refuse NotReady r) x)) .class) ≡ not u
+unfolding pick
+closes s true r x e h = rw e
+closes s false r x e h = rw e h
+
+neither : (d q : Bool) → not (d or not q) ≡ q && not d
+unfolding _or_
+neither true true = refl
+neither true false = refl
+neither false true = refl
+neither false false = refl
 
 not-not : (b : Bool) → not (not b) ≡ b
 not-not true = refl
 not-not false = refl
 
 module _ {r : Record} (w : Whole r) (e : r .staged ≡ true) where
-  pub commit-is : eqb (step r commit .number) 0 ≡ (eqb (r .phase .number) 0 || eqb (r .phase .number) 7) && (not (r .restoring) && eqb (r .applied) (r .entries))
+  pub commit-is : successful (step r commit .class) ≡ (eqb (r .phase .number) 0 || eqb (r .phase .number) 7) && (not (r .restoring) && eqb (r .applied) (r .entries))
   unfolding own commitOwn complete _and_ _or_
   commit-is =
-      ap (λ (t : Told). eqb (t .number) 0) (undamaged commit w)
-      ∙ closes (r .staged) (not (complete r)) (eqb (r .phase .number) 0 or eqb (r .phase .number) 7) r (idleAt (r .revision + 1) (r .candidate) r) (Three (r .accepted) (r .recovery) (r .entries)) e
+      ap (λ (t : Told). successful (t .class)) (undamaged commit w)
+      ∙ closes (r .staged) (not (complete r) or not (eqb (r .phase .number) 0 or eqb (r .phase .number) 7)) r _ e refl
+      ∙ neither (not (complete r)) (eqb (r .phase .number) 0 or eqb (r .phase .number) 7)
       ∙ ap (λ (b : Bool). (eqb (r .phase .number) 0 || eqb (r .phase .number) 7) && b) (not-not _)
 
-  pub recover-is : eqb (step r recoverRetained .number) 0 ≡ (eqb (r .phase .number) 0 || eqb (r .phase .number) 13) && not (ltb 0 (r .entries))
-  unfolding own recoverRetainedOwn unrestored _or_
-  recover-is =
-      ap (λ (t : Told). eqb (t .number) 0) (undamaged recoverRetained w)
-      ∙ closes (r .staged) (ltb 0 (r .entries)) (eqb (r .phase .number) 0 or eqb (r .phase .number) 13) r (idleAt (r .revision) (r .recovery) r) (Three (r .accepted) (r .candidate) (r .recovery)) e
+  pub retained-is : successful (step r recoverRetained .class) ≡ not (unrestored r)
+  unfolding own recoverRetainedOwn
+  retained-is = ap (λ (t : Told). successful (t .class)) (undamaged recoverRetained w) ∙ closes (r .staged) (unrestored r) r _ e refl
+
+  pub recover-is : successful (step r recoverRetained .class) ≡ (eqb (r .phase .number) 0 || eqb (r .phase .number) 13) && not (ltb 0 (r .entries))
+  unfolding unrestored _or_
+  recover-is = retained-is ∙ neither (ltb 0 (r .entries)) (eqb (r .phase .number) 0 or eqb (r .phase .number) 13)
 
 -- commit, by the rows
 commit-row : {p f b n a k : ℕ} {v s : Bool} → Stage p f b n a k v → Kind s p → v ≡ false → a ≤ k → k ≤ n →

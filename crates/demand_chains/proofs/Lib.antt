@@ -4,8 +4,8 @@ pub mod Noting
 pub mod Tying
 pub mod Chain
 pub mod Exactly
-pub mod Granting
 pub mod OneDue
+pub mod Granting
 pub mod Asking
 pub mod Issuing
 pub mod Progress
@@ -14,8 +14,8 @@ pub mod Finishing
 pub mod Turning
 pub mod Recovering
 pub mod Revision
-pub mod Running
 pub mod Stamps
+pub mod Demands
 pub mod Theorems
 pub mod From
 pub mod SentCalls

@@ -2,18 +2,21 @@
 use Prim.Native.Nat.{ℕ, _≤_, _<_}
 use mathlib.Core.Path.{_≡_, sym, _∙_, ap}
 use mathlib.Core.Bool.{Bool, true, false}
-use mathlib.Core.List.{List, [], _∷_, _++_}
+use mathlib.Core.List.{[], _∷_, _++_}
 use native.Mathlib.Omega.{arith}
-use lib.Dec.{eqb}
 use borrow.Author.Tests.{eq-eqb}
-use Rattle.choice.specs.Pick.{pick, _and_, _or_}
+use Rattle.choice.specs.Pick.{pick, _and_}
+use Rattle.record.specs.Classes.{StepAnswer, takes}
+use Rattle.record.specs.Classes.Class.{stepping}
 use Rattle.record.specs.Answers.{said}
+use Rattle.record.specs.Given.Effect.{works}
 use Rattle.record.specs.Fields.{spent}
 use Rattle.record.specs.declared.Record.{Record}
-use Rattle.record.specs.declared.Outcome.the-variants as O
 use Rattle.step_reports.specs.Done.{advanced}
 use Rattle.step_reports.specs.Reports.{storing}
-use Rattle.demand_steps.specs.Watching.{Item, Watch, settles, lists, reported}
+use Rattle.calls.specs.Calls.{Report}
+use Rattle.calls.specs.Calls.Report.{structured}
+use Rattle.demand_steps.specs.Watching.{Watch, isFor, lists, reported}
 use Rattle.demand_steps.specs.Watching.Item.{settle}
 use Rattle.demand_steps.proofs.Leaf.{Apart}
 use Rattle.demand_steps.proofs.Facts.{Whole, byCase}
@@ -30,12 +33,12 @@ pub record Tied (w : Watch) (r : Record) : Type 0 where
   pub course : Course (w .structural) (w .size) (w .started) (w .done) (w .undone) (r .forward) (r .back) (r .entries) (r .applied) (r .attempted) (r .restoring)
 
 -- a Done report that is taken, of the last ticket: before and after a rollback was granted
-module _ (k : Item → Bool) (n t : ℕ) (vs : List ℕ) (w : Watch) (h : eqb n 23 or eqb n 24 ≡ true) (e : w .ticket ≡ t) (j : k (w .item) ≡ true) where
-  pub note-ahead : w .turned ≡ false → reported k t O.Done (said n vs) w ≡ lists (w .done ++ (w .item ∷ [])) (w .undone) w
+module _ (of : Report) (t : ℕ) (s : StepAnswer) (w : Watch) (h : takes s ≡ true) (e : w .ticket ≡ t) (j : isFor of (w .item) ≡ true) where
+  pub note-ahead : w .turned ≡ false → reported of t works (said (stepping s) []) w ≡ lists (w .done ++ (w .item ∷ [])) (w .undone) w
   unfolding reported pick _and_
   note-ahead i = rw (h, eq-eqb t (w .ticket) (sym e), j, i)
 
-  pub note-behind : w .turned ≡ true → reported k t O.Done (said n vs) w ≡ lists (w .done) (w .undone ++ (w .item ∷ [])) w
+  pub note-behind : w .turned ≡ true → reported of t works (said (stepping s) []) w ≡ lists (w .done) (w .undone ++ (w .item ∷ [])) w
   unfolding reported pick _and_
   note-behind i = rw (h, eq-eqb t (w .ticket) (sym e), j, i)
 
@@ -49,24 +52,26 @@ undo-back (Undo.plain x1 x2 x3 x4) = x3
 undo-back (Undo.inside x1 x2 x3 x4 x5) = x4
 
 -- a structure report that is taken
-pub advances : {r : Record} (w : Watch) (n t new old : ℕ) → Whole r → Tied w r → eqb n 23 or eqb n 24 ≡ true → Apart (r .phase .number) → (w .ticket ≡ t) × (w .item ≡ settle (r .phase .number)) →
-    Tied (reported settles t O.Done (said n []) w) (advanced (spent (storing new old r)))
-advances {r} w n t new old h d o y q =
+pub advances : {r : Record} (w : Watch) (s : StepAnswer) (t new old : ℕ) → Whole r → Tied w r → takes s ≡ true → Apart (r .phase .number) →
+    (w .ticket ≡ t) × (w .item ≡ settle (r .phase .number)) → Tied (reported (structured new old) t works (said (stepping s) []) w) (advanced (spent (storing new old r)))
+advances {r} w a t new old h d o y q =
+    let of : Report = structured new old in
     let s = successor-test (r .phase .number) (ranges (h .stage) .bound) y in
     let x : Record = spent (storing new old r) in
     let m = inAlong (h .stage) y in
+    let j = ap (isFor of) (q .1) in
     byCase 6 (r .phase .number)
-    (λ (j : 6 < r .phase .number). rw (goes-down x s j, note-behind settles n t [] w o (q .0) (ap settles (q .1)) (d .turning ∙ ranges (h .stage) .turned .behind (omega (arith, y .not7)))) record {
+    (λ (i : 6 < r .phase .number). rw (goes-down x s i, note-behind of t a w o (q .0) j (d .turning ∙ ranges (h .stage) .turned .behind (omega (arith, y .not7)))) record {
       running = d .running;
       turning = d .turning;
       kind = same-kind (d .kind) (λ z. omega arith) (λ z. omega arith);
       last = tt;
-      course = down m (d .course) j (q .1);
+      course = down m (d .course) i (q .1);
     })
-    (λ (j : r .phase .number ≤ 6). rw (goes-up x s j, note-ahead settles n t [] w o (q .0) (ap settles (q .1)) (d .turning ∙ along-ahead m j)) record {
+    (λ (i : r .phase .number ≤ 6). rw (goes-up x s i, note-ahead of t a w o (q .0) j (d .turning ∙ along-ahead m i)) record {
       running = d .running;
       turning = d .turning;
       kind = same-kind (d .kind) (λ z. omega (arith, y .not0)) (λ z. omega arith);
       last = tt;
-      course = up m (d .kind) (d .course) j (h .size .order) (q .1);
+      course = up m (d .kind) (d .course) i (h .size .order) (q .1);
     })

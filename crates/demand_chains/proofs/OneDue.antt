@@ -2,8 +2,8 @@
 use Prim.Native.Nat.{ℕ, _≤_, _<_}
 use mathlib.Core.Path.{_≡_, refl, sym}
 use mathlib.Core.Bool.{true, false}
-use borrow.Author.Tests.{ltb-true}
-use Rattle.choice.proofs.Tests.{never, both}
+use borrow.Author.Tests.{eqb-true, ltb-true, not-true}
+use Rattle.choice.proofs.Tests.{never, both, either}
 use Rattle.record.specs.Fields.{top}
 use Rattle.record.specs.declared.Record.{Record}
 use Rattle.wholeness.specs.Whole.{whole}
@@ -14,8 +14,8 @@ use Rattle.demand_chains.specs.Plans.{due}
 use Rattle.demand_steps.proofs.Leaf.{Apart, Updates}
 use Rattle.demand_steps.proofs.Facts.{Whole, tests}
 use Rattle.demand_steps.proofs.Reading.{apart-of, whole-facts}
+use Rattle.demand_steps.proofs.Testing.{ranges}
 use Rattle.demand_steps.proofs.Moves.{Undo, inUndo}
-use Rattle.demand_chains.proofs.Granting.{due-update}
 
 -- which asking is due, with what that says of the record
 pub data Due (r : Record) : Call → Type 0 where
@@ -23,20 +23,26 @@ pub data Due (r : Record) : Call → Type 0 where
   apply : Updates (r .phase .number) → r .restoring ≡ false → Due r (ask update)
   undo : r .restoring ≡ true → 0 < r .entries → Due r (ask rollback)
 
+pub due-update : {r : Record} → Whole r → due r (ask update) ≡ true → Updates (r .phase .number) × (r .restoring ≡ false)
+unfolding due
+due-update w d =
+    either d (λ e. (Updates.batch (eqb-true _ _ e), ranges (w .stage) .turned .ahead (omega tests) (omega tests)))
+    (λ e. let x = both (both e .0) in (Updates.flat (eqb-true _ _ (x .0)), not-true _ (x .1)))
+
 pub due-is : (r : Record) → Whole r → (c : Call) → due r c ≡ true → Due r c
 unfolding due
 due-is r w (ask structure) d = settle (apart-of _ d)
 due-is r w (ask update) d = let x = due-update w d in apply (x .0) (x .1)
 due-is r w (ask rollback) d = let x = both d in undo (x .0) (ltb-true _ _ (x .1))
-due-is r w (begin structural c o n) d = never (sym d)
-due-is r w (report k t x) d = never (sym d)
+due-is r w (begin structural b) d = never (sym d)
+due-is r w (report of t x) d = never (sym d)
 due-is r w (edit c o) d = never (sym d)
 due-is r w commit d = never (sym d)
 due-is r w (recover n) d = never (sym d)
 due-is r w recoverRetained d = never (sym d)
 due-is r w (refresh n) d = never (sym d)
 due-is r w (stamp domain) d = never (sym d)
-due-is r w (check domain e v) d = never (sym d)
+due-is r w (check domain e) d = never (sym d)
 
 -- no phase has two of them
 settling : {p : ℕ} {P : Type 0} → Apart p → Updates p → P

@@ -3,24 +3,28 @@ use Prim.Native.Nat.{ℕ, _+_}
 use mathlib.Core.Path.{_≡_, refl, sym, _∙_, ap}
 use mathlib.Core.Bool.{Bool, true, false}
 use mathlib.Core.List.{[], _∷_}
-use lib.Dec.{eqb}
 use lib.ListN.{length-append}
 use borrow.Author.Tests.{eq-eqb, eqb-true, leb-true}
-use Rattle.choice.specs.Pick.{pick, _or_}
+use Rattle.choice.specs.Pick.{pick}
 use Rattle.choice.proofs.Picks.{picked}
-use Rattle.choice.proofs.Tests.{both, either, eqb-ne}
-use Rattle.record.specs.Answers.{Told, Said, said, answer}
+use Rattle.choice.proofs.Tests.{never, both, either}
+use Rattle.record.specs.Classes as Classes
+use Rattle.record.specs.Classes.{ticketed, taken}
+use Rattle.record.specs.Classes.Class.{stepping}
+use Rattle.record.specs.Classes.StepAnswer.{ticket, finished}
+use Rattle.record.specs.Answers.{Told, Said, says, saidOf, answer, refuse}
+use Rattle.record.specs.Given.Effect.{works}
 use Rattle.record.specs.Fields.{withPlace, adopting}
 use Rattle.record.specs.declared.Record.{Record}
-use Rattle.record.specs.declared.Outcome.the-variants.{Done}
-use Rattle.record.specs.declared.Answer.the-variants.{Finished}
+use Rattle.record.specs.declared.Answer.the-variants.{Ticket, Finished}
+use Rattle.record.specs.declared.Refusal.{Refusal}
 use Rattle.step_asks.specs.Asks.{askStructureOwn, askUpdateOwn, askRollbackOwn}
-use Rattle.calls.specs.Calls.{Call, step}
+use Rattle.calls.specs.Calls.{Report, Call, step}
 use Rattle.calls.specs.Calls.Work.{structure, update, rollback}
 use Rattle.calls.specs.Calls.Call.{ask}
 use Rattle.demand_chains.specs.Chains.{heard}
 use Rattle.demand_steps.specs.Watching as W
-use Rattle.demand_steps.specs.Watching.{hears, Item, Watch, settles, applies, undoes, taken, reported, sees, watch}
+use Rattle.demand_steps.specs.Watching.{Item, Watch, reported, sees, watch}
 use Rattle.demand_chains.specs.Plans.{due}
 use Rattle.demand_chains.specs.Progress.{DoneReport, counted, wanted, MovesOn, Progress}
 use Rattle.demand_chains.specs.Progress.DoneReport.{forStructure, forUpdate, forRollback}
@@ -31,8 +35,7 @@ use Rattle.demand_steps.proofs.Testing.{ranges}
 use Rattle.demand_chains.proofs.Chain.{Good, undamaged}
 use Rattle.demand_steps.proofs.Calming.{range}
 use Rattle.demand_steps.proofs.Keeping.{report-keeps}
-use Rattle.demand_chains.proofs.Granting.{due-update}
-use Rattle.demand_chains.proofs.OneDue.{Due, due-is}
+use Rattle.demand_chains.proofs.OneDue.{Due, due-update, due-is}
 use Rattle.demand_chains.proofs.Issuing.{done-taken}
 
 -- one more is noted
@@ -49,8 +52,8 @@ record Same (w x : Watch) : Type 0 where
   turned : x .turned ≡ w .turned
 
 module _ {w : Watch} {r : Record} (g : Good w r) {t : ℕ} where
-  asked : {c d : Call} (a : Said) → a .number ≡ 20 → due r c ≡ true → DoneReport t c d → Same w (sees w c a)
-  unfolding sees due pick _or_
+  asked : {c d : Call} (a : Said) → a .class ≡ stepping ticket → due r c ≡ true → DoneReport t c d → Same w (sees w c a)
+  unfolding sees due pick
   asked a n e (forStructure p q) = rw n (record { as-much = refl; as-many = refl; running = refl; turned = refl })
   asked a n e forUpdate = let i = g .tied .turning ∙ due-update (g .is-whole) e .1 in rw n (record { as-much = rw i; as-many = rw i; running = refl; turned = refl })
   asked a n e forRollback = let i = g .tied .turning ∙ both e .0 in rw n (record { as-much = rw i; as-many = rw i; running = refl; turned = sym i })
@@ -63,29 +66,35 @@ pub record Noted (w x : Watch) : Type 0 where
   pub turned : x .turned ≡ w .turned
 
 module _ {w x : Watch} (s : Same w x) (t : ℕ) where
-  notes : (kind : Item → Bool) (a : Said) → taken a ≡ true → Noted w (reported kind t Done a x)
+  notes : (of : Report) (a : Said) → taken (a .class) ≡ true → Noted w (reported of t works a x)
   unfolding reported pick
-  notes kind a h = record {
+  notes of a h = record {
     one-more = rw h (notes-one _ _ x refl) ∙ ap (λ (n : ℕ). n + 1) (s .as-much);
-    as-many = report-keeps wanted (λ d u y. refl) kind t Done a x ∙ s .as-many;
-    running = report-keeps (λ (y : Watch). y .running) (λ d u y. refl) kind t Done a x ∙ s .running;
-    turned = report-keeps (λ (y : Watch). y .turned) (λ d u y. refl) kind t Done a x ∙ s .turned;
+    as-many = report-keeps wanted (λ d u y. refl) of t works a x ∙ s .as-many;
+    running = report-keeps (λ (y : Watch). y .running) (λ d u y. refl) of t works a x ∙ s .running;
+    turned = report-keeps (λ (y : Watch). y .turned) (λ d u y. refl) of t works a x ∙ s .turned;
   }
 
-  noted : {c d : Call} (a : Said) → taken a ≡ true → DoneReport t c d → Noted w (sees x d a)
+  noted : {c d : Call} (a : Said) → taken (a .class) ≡ true → DoneReport t c d → Noted w (sees x d a)
   unfolding sees
-  noted a h (forStructure p q) = notes settles a h
-  noted a h forUpdate = notes applies a h
-  noted a h forRollback = notes undoes a h
+  noted a h (forStructure p q) = notes _ a h
+  noted a h forUpdate = notes _ a h
+  noted a h forRollback = notes _ a h
 
 -- an asking that is due and is answered Finished: of updates, in phase 5
 record Ends (r : Record) (c : Call) (x : Told) : Type 0 where
-  from : x .number ≡ 24 → r .phase .number ≡ 5
-  to : x .number ≡ 24 → x .state ≡ withPlace 6 (r .forward) (r .back) r
-  unseen : x .number ≡ 24 → Unseen c (x .number) (x .values)
+  from : x .class ≡ stepping finished → r .phase .number ≡ 5
+  to : x .class ≡ stepping finished → x .state ≡ withPlace 6 (r .forward) (r .back) r
+  unseen : x .class ≡ stepping finished → Unseen c (saidOf x)
 
-unended : {r : Record} {c : Call} {x : Told} → eqb (x .number) 24 ≡ false → Ends r c x
-unended h = let n = eqb-ne _ _ h in record { from = λ e. absurd (n e); to = λ e. absurd (n e); unseen = λ e. absurd (n e) }
+unended : {r : Record} {c : Call} {x : Told} → (x .class ≡ stepping finished → ⊥) → Ends r c x
+unended n = record { from = λ e. absurd (n e); to = λ e. absurd (n e); unseen = λ e. absurd (n e) }
+
+refused : {r : Record} {c : Call} (why : Refusal) → Ends r c (refuse why r)
+refused why = unended (λ e. never (ap Classes.refused e))
+
+issued : {r : Record} {c : Call} (t i : ℕ) (q : Record) → Ends r c (answer (Ticket t i) q)
+issued t i q = unended (λ e. never (ap ticketed e))
 
 adopts : (r : Record) → r .phase .number ≡ 5 → Ends r (ask update) (answer Finished (adopting r))
 unfolding adopting sees pick
@@ -95,30 +104,30 @@ module _ {r : Record} (w : Whole r) where
   ends : {c : Call} → Due r c → due r c ≡ true → Ends r c (own r c)
   unfolding due own askStructureOwn askUpdateOwn askRollbackOwn
   ends (Due.settle y) d =
-      picked (Ends r (ask structure)) _ (λ h. unended refl) (λ h.
+      picked (Ends r (ask structure)) _ (λ h. refused _) (λ h.
       picked (Ends r (ask structure)) _ (λ i. either i (λ j. absurd (y .not7 (eqb-true _ _ j))) (λ j. absurd (y .not13 (eqb-true _ _ j)))) (λ i.
-      picked (Ends r (ask structure)) _ (λ j. unended refl) (λ j. unended refl)))
+      picked (Ends r (ask structure)) _ (λ j. refused _) (λ j. issued _ _ _)))
   ends (Due.apply u v) d =
-      picked (Ends r (ask update)) _ (λ h. unended refl) (λ h.
+      picked (Ends r (ask update)) _ (λ h. refused _) (λ h.
       picked (Ends r (ask update)) _ (λ i. either d (λ j. adopts r (eqb-true _ _ j)) (λ j. absurd (omega (tests, both j)))) (λ i.
-      picked (Ends r (ask update)) _ (λ j. unended refl) (λ j. unended refl)))
+      picked (Ends r (ask update)) _ (λ j. refused _) (λ j. issued _ _ _)))
   ends (Due.undo v n) d =
       let t = ranges (w .stage) .turned in
       picked (Ends r (ask rollback)) _ (λ h. absurd (omega (tests, t .empty (leb-true _ _ h)))) (λ h.
-      picked (Ends r (ask rollback)) _ (λ i. unended refl) (λ i.
-      picked (Ends r (ask rollback)) _ (λ j. absurd (omega (tests, t .all v))) (λ j. unended refl)))
+      picked (Ends r (ask rollback)) _ (λ i. refused _) (λ i.
+      picked (Ends r (ask rollback)) _ (λ j. absurd (omega (tests, t .all v))) (λ j. issued _ _ _)))
 
 module _ (w : Watch) (r : Record) (g : Good w r) (c : Call) (e : due r c ≡ true) where
   -- after a ticket and its Done report
-  module _ (t i : ℕ) (d : Call) (h : hears c (step r c) .answer ≡ said 20 (t ∷ i ∷ [])) (q : DoneReport t c d) where
-    is-taken : taken (hears d (step (step r c .state) d) .answer) ≡ true
+  module _ (t i : ℕ) (d : Call) (h : saidOf (step r c) ≡ says (Ticket t i)) (q : DoneReport t c d) where
+    is-taken : taken (step (step r c .state) d .class) ≡ true
     is-taken = done-taken r c d t i (range (g .is-whole .calm)) h q
 
     pub counts-one : Noted w (watch w (heard r (c ∷ d ∷ [])))
     unfolding heard watch
-    counts-one = noted (asked g _ (ap (λ (s : Said). s .number) h) e q) t _ is-taken q
+    counts-one = noted (asked g _ (ap (λ (s : Said). s .class) h) e q) t _ is-taken q
 
-  moves-law : step r c .number ≡ 24 → MovesOn r w c
+  moves-law : step r c .class ≡ stepping finished → MovesOn r w c
   unfolding heard watch
   moves-law h =
       let x : Ends r c (step r c) = rw (undamaged c (g .is-whole)) (ends (g .is-whole) (due-is r (g .is-whole) c e) e) in

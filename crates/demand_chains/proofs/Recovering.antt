@@ -8,6 +8,7 @@ use lib.Dec.{eqb, ltb}
 use borrow.Author.Tests.{eq-eqb, ne-eqb, lt-ltb, le-ltb}
 use Rattle.choice.specs.Pick.{pick, _and_}
 use Rattle.areas.specs.Areas.{long}
+use Rattle.record.specs.Classes.{successful}
 use Rattle.record.specs.Answers.{Told, refuse}
 use Rattle.record.specs.declared.Record.{Record}
 use Rattle.record.specs.declared.Refusal.the-variants.{Idle, NotReady, TooLong}
@@ -23,37 +24,29 @@ use Rattle.demand_chains.proofs.Course.{Kind, Course}
 use Rattle.demand_chains.proofs.Course.Kind.{updateOnly, structural}
 use Rattle.demand_chains.proofs.Course.Course.{ahead, behind}
 use Rattle.demand_chains.proofs.Chain.{Good, undamaged}
-use Rattle.demand_chains.proofs.Exactly.{recover-is, backward-law}
+use Rattle.demand_chains.proofs.Exactly.{retained-is, recover-is, backward-law}
 
 -- 2, and then 4 if u, and then 8 if l
-retained-by : (s u : Bool) (r : Record) (x : Told) → s ≡ true → x .number ≡ 0 → (pick (not s) (refuse Idle r) (pick u (refuse NotReady r) x)) .number ≡ pick (not u) 0 4
+retains : (s u : Bool) (r : Record) (x : Told) → s ≡ true → x .number ≡ 0 → (pick (not s) (refuse Idle r) (pick u (refuse NotReady r) x)) .number ≡ pick (not u) 0 4
 unfolding pick
-retained-by s true r x e z = rw e
-retained-by s false r x e z = rw e z
+retains s true r x e z = rw e
+retains s false r x e z = rw e z
 
-given-by : (s u l : Bool) (r : Record) (x : Told) → s ≡ true → x .number ≡ 0 →
+gives : (s u l : Bool) (r : Record) (x : Told) → s ≡ true → x .number ≡ 0 →
     (pick (not s) (refuse Idle r) (pick u (refuse NotReady r) (pick l (refuse TooLong r) x))) .number ≡ pick (not u) (pick l 8 0) 4
 unfolding pick
-given-by s true l r x e z = rw e
-given-by s false true r x e z = rw e
-given-by s false false r x e z = rw e z
-
-zero-is : (b : Bool) → eqb (pick b 0 4) 0 ≡ b
-unfolding pick
-zero-is true = refl
-zero-is false = refl
+gives s true l r x e z = rw e
+gives s false true r x e z = rw e
+gives s false false r x e z = rw e z
 
 module _ {r : Record} (w : Whole r) (e : r .staged ≡ true) where
-  retained-is : step r recoverRetained .number ≡ pick (not (unrestored r)) 0 4
+  retained-by : step r recoverRetained .number ≡ pick (not (unrestored r)) 0 4
   unfolding own recoverRetainedOwn
-  retained-is = ap (λ (t : Told). t .number) (undamaged recoverRetained w) ∙ retained-by (r .staged) (unrestored r) r _ e refl
+  retained-by = ap (λ (t : Told). t .number) (undamaged recoverRetained w) ∙ retains (r .staged) (unrestored r) r _ e refl
 
-  given-is : (n : ℕ) → step r (recover n) .number ≡ pick (not (unrestored r)) (pick (long n) 8 0) 4
+  given-by : (n : ℕ) → step r (recover n) .number ≡ pick (not (unrestored r)) (pick (long n) 8 0) 4
   unfolding own recoverOwn
-  given-is n = ap (λ (t : Told). t .number) (undamaged (recover n) w) ∙ given-by (r .staged) (unrestored r) (long n) r _ e refl
-
-  restored-is : not (unrestored r) ≡ eqb (step r recoverRetained .number) 0
-  restored-is = sym (ap (λ (n : ℕ). eqb n 0) retained-is ∙ zero-is _)
+  given-by n = ap (λ (t : Told). t .number) (undamaged (recover n) w) ∙ gives (r .staged) (unrestored r) (long n) r _ e refl
 
 -- with no rollback granted, there is nothing to undo exactly where nothing is to be done
 early-row : {p f b n a k : ℕ} {v s : Bool} → Stage p f b n a k v → Kind s p → v ≡ false → (eqb p 0 || eqb p 13) && not (ltb 0 n) ≡ not s and eqb n 0
@@ -70,13 +63,13 @@ of-size (ahead e x y p q) h = x
 of-size (behind e m x y) h = absurd (omega tests)
 
 module _ (w : Watch) (r : Record) (g : Good w r) (i : w .running ≡ true) where
-  by-test : (b : Bool) → eqb (step r recoverRetained .number) 0 ≡ b → Recoveries r b
+  by-test : (b : Bool) → successful (step r recoverRetained .class) ≡ b → Recoveries r b
   by-test b h =
       let e : r .staged ≡ true = sym (g .tied .running) ∙ i in
-      let j = restored-is (g .is-whole) e ∙ h in
+      let j = sym (retained-is (g .is-whole) e) ∙ h in
       record {
-        retained = retained-is (g .is-whole) e ∙ ap (λ (c : Bool). pick c 0 4) j;
-        given = λ n. given-is (g .is-whole) e n ∙ ap (λ (c : Bool). pick c (pick (long n) 8 0) 4) j;
+        retained = retained-by (g .is-whole) e ∙ ap (λ (c : Bool). pick c 0 4) j;
+        given = λ n. given-by (g .is-whole) e n ∙ ap (λ (c : Bool). pick c (pick (long n) 8 0) 4) j;
       }
 
   pub back-law : w .turned ≡ true → Recoveries r (back w)

@@ -1,60 +1,64 @@
--- The revision is the first one plus the successful commits, in every chain from any record. Assumes nothing.
+-- What holds of every chain from any record: the revision is the first one plus the successful commits, and a watcher who knows whether
+-- something is staged goes on knowing it, whatever else was not told. Assumes nothing.
 use Prim.Native.Nat.{ℕ, _+_}
-use mathlib.Core.Path.{_≡_, refl}
-use mathlib.Core.Bool.{Bool}
-use mathlib.Core.List.{List, [], _∷_}
+use mathlib.Core.Path.{_≡_, refl, sym, _∙_}
+use mathlib.Core.List.{List, []}
 use native.Mathlib.Omega.{arith}
-use Rattle.choice.specs.Pick.{pick, _or_}
-use Rattle.record.specs.Answers.{Told, said}
+use Rattle.choice.specs.Pick.{pick}
+use Rattle.phases.specs.Phases.{successor}
+use Rattle.record.specs.Classes.{StepAnswer}
+use Rattle.record.specs.Classes.Class.{stepping}
+use Rattle.record.specs.Answers.{Told, said, saidOf}
+use Rattle.record.specs.Given.Effect.{works}
 use Rattle.record.specs.Fields.{adopting}
 use Rattle.record.specs.declared.Record.{Record}
-use Rattle.record.specs.declared.Outcome.the-variants as O
-use Rattle.phases.specs.Phases.{successor}
 use Rattle.step_begins.specs.Beginning.{begun}
 use Rattle.step_asks.specs.Asks.{turned}
-use Rattle.step_reports.specs.Done.{advanced, leaving}
+use Rattle.step_reports.specs.Done.{advanced}
 use Rattle.step_ends.specs.Ending.{idleAt}
-use Rattle.calls.specs.Calls.{Call}
-use Rattle.demand_chains.specs.Sending.{Sent, answered, afterSent, heardSent}
-use Rattle.demand_steps.specs.Watching.{Item, Watch, reported, sees, watch}
+use Rattle.calls.specs.Calls.{Report, Call}
+use Rattle.demand_chains.specs.Sending.{Sent, afterSent, heardSent}
+use Rattle.demand_steps.specs.Watching.{Watch, reported, sees, watch}
 use Rattle.demand_steps.proofs.Keeping.{report-keeps, onward-keeps}
 use Rattle.demand_steps.proofs.Leaf.{Leaf}
-use Rattle.demand_steps.proofs.Leaf.Leaf.{kept, began, beganStructural, structureAsked, updateEnded, updateAsked, rollbackEnded, turnedEmpty, turnedAsked, waited, waitedStoring, went, updateLast, updateMore, undoLast, undoMore, edited, committed, recovered, restored, refreshed}
-use Rattle.demand_chains.proofs.Sending.{sent-leaf}
+use Rattle.demand_steps.proofs.Leaf.Leaf.{kept, began, structureAsked, updateEnded, updateAsked, rollbackEnded, turnedEmpty, turnedAsked, waited, went, updateTaken, undoTaken, committed, recovered, restored}
+use Rattle.demand_chains.proofs.Sending.{chain-keeps}
 
-report-commits : (k : Item → Bool) (t n : ℕ) (w : Watch) → reported k t O.Done (said n []) w .commits ≡ w .commits
-report-commits k t n w = report-keeps (λ (x : Watch). x .commits) (λ d u x. refl) k t O.Done (said n []) w
+-- one call, from the record r to q: what the revision gains is what the watcher counts
+record Known (r q : Record) (w later : Watch) : Type 0 where
+  runs : w .running ≡ r .staged → later .running ≡ q .staged
+  gains : q .revision + w .commits ≡ r .revision + later .commits
 
--- one call: what the revision gains is what the watcher counts
-gains : {r : Record} {c : Call} {x : Told} (w : Watch) → Leaf r c x → x .state .revision + w .commits ≡ r .revision + sees w c (said (x .number) (x .values)) .commits
-unfolding sees begun turned adopting leaving idleAt advanced pick _or_
-gains w (kept u) = rw (u w)
-gains w (began z i l c o m) = refl
-gains w (beganStructural z i l c o m) = refl
-gains w (structureAsked y) = refl
-gains w (updateEnded u e s) = refl
-gains w (updateAsked u e n) = refl
-gains w (rollbackEnded p) = refl
-gains w (turnedEmpty p n) = refl
-gains w (turnedAsked p n) = refl
-gains w (waited u) = rw (u w)
-gains w (waitedStoring u i j) = rw (u w)
-gains {r} w (went {t = t} {n = n} o l i j) = rw (onward-keeps (λ (x : Record). x .revision) (λ p a b x. refl) (successor (r .phase .number)) _, report-commits _ t n w)
-gains w (updateLast {t = t} l n) = rw (report-commits _ t 24 w)
-gains w (updateMore {t = t} l n) = rw (report-commits _ t 23 w)
-gains w (undoLast {t = t} l n) = rw (report-commits _ t 24 w)
-gains w (undoMore {t = t} l n) = rw (report-commits _ t 23 w)
-gains w (edited i j) = refl
-gains w (committed i) = omega arith
-gains w (recovered i) = refl
-gains w restored = refl
-gains w (refreshed i) = refl
+alike : {r q : Record} {w later : Watch} → q .staged ≡ r .staged → q .revision ≡ r .revision → later .running ≡ w .running → later .commits ≡ w .commits → Known r q w later
+alike s v i n = record { runs = λ h. i ∙ h ∙ sym s; gains = omega arith }
 
-pub chain-gains : (w : Watch) (r : Record) (ss : List Sent) → afterSent r ss .revision + w .commits ≡ r .revision + watch w (heardSent r ss) .commits
-unfolding afterSent heardSent watch
-chain-gains w r [] = refl
-chain-gains w r (s ∷ ss) =
-    let t = answered r s in
-    let h = gains w (sent-leaf r s) in
-    let k = chain-gains (sees w (s .call) (said (t .number) (t .values))) (t .state) ss in
-    omega arith
+reports : {r q : Record} (of : Report) (t : ℕ) (s : StepAnswer) (w : Watch) → q .staged ≡ r .staged → q .revision ≡ r .revision → Known r q w (reported of t works (said (stepping s) []) w)
+reports of t s w e v =
+    alike e v (report-keeps (λ (x : Watch). x .running) (λ d u x. refl) of t works _ w) (report-keeps (λ (x : Watch). x .commits) (λ d u x. refl) of t works _ w)
+
+known : {r : Record} {c : Call} {x : Told} (w : Watch) → Leaf r c x → Known r (x .state) w (sees w c (saidOf x))
+unfolding sees begun turned adopting idleAt advanced pick
+known w (kept u f) = rw (u w) (alike refl refl refl refl)
+known w (began i l f m) = record { runs = λ h. refl; gains = refl }
+known w (structureAsked y) = alike refl refl refl refl
+known w (updateEnded u e s) = alike refl refl refl refl
+known w (updateAsked u e n) = alike refl refl refl refl
+known w (rollbackEnded p) = alike refl refl refl refl
+known w (turnedEmpty p n) = alike refl refl refl refl
+known w (turnedAsked p n) = alike refl refl refl refl
+known w (waited u f) = rw (u w) (alike refl refl refl refl)
+known {r} w (went {t = t} {s = s} o l f) =
+    let n = successor (r .phase .number) in
+    reports _ t s w (onward-keeps (λ (x : Record). x .staged) (λ p a b x. refl) n _) (onward-keeps (λ (x : Record). x .revision) (λ p a b x. refl) n _)
+known w (updateTaken {t = t} {s = s} o l g) = reports _ t s w refl refl
+known w (undoTaken {t = t} {s = s} o l g) = reports _ t s w refl refl
+known w (committed i) = record { runs = λ h. refl; gains = omega arith }
+known w (recovered i) = record { runs = λ h. refl; gains = refl }
+known w restored = record { runs = λ h. refl; gains = refl }
+
+module _ (w : Watch) (r : Record) (ss : List Sent) where
+  pub chain-runs : w .running ≡ r .staged → watch w (heardSent r ss) .running ≡ afterSent r ss .staged
+  chain-runs = chain-keeps (λ x q. x .running ≡ q .staged) (λ x q c t l h. known x l .runs h) w r ss
+
+  pub chain-gains : afterSent r ss .revision + w .commits ≡ r .revision + watch w (heardSent r ss) .commits
+  chain-gains = chain-keeps (λ x q. q .revision + w .commits ≡ r .revision + x .commits) (λ x q c t l h. omega (arith, known x l .gains)) w r ss refl

@@ -1,95 +1,42 @@
--- A call that is sent does its step, or is refused and changes nothing: so it is one of the cases of `Leaf` too. A plain chain is a chain
--- of calls that are sent plainly. Assumes nothing.
+-- A call that is sent does its step, or is refused and changes nothing: so it is one of the cases of `Leaf` too, and what every case keeps
+-- every chain keeps. A plain chain is a chain of calls that are sent plainly. Assumes nothing.
 use Prim.Native.Nat.{ℕ}
-use mathlib.Core.Path.{_≡_, refl, sym, _∙_, ap, subst}
+use mathlib.Core.Path.{_≡_, refl, sym, _∙_, ap}
 use mathlib.Core.Bool.{Bool, true, false, not}
 use mathlib.Core.List.{List, [], _∷_, map}
 use Rattle.choice.specs.Pick.{pick, _and_}
-use Rattle.choice.proofs.Tests.{never, no-right}
-use Rattle.choice.proofs.Picks.{no}
+use Rattle.choice.proofs.Tests.{no-right}
+use Rattle.choice.proofs.Picks.{no, each}
 use Rattle.record.specs.Classes.{Class}
-use Rattle.record.specs.Answers.{Told, refuse}
+use Rattle.record.specs.Answers.{Told, saidOf, refuse}
 use Rattle.record.specs.Leaves.{leaves}
 use Rattle.record.specs.declared.Record.{Record}
 use Rattle.record.specs.declared.Refusal.{Refusal}
-use Rattle.record.specs.declared.Refusal.the-variants.{LogFull, BadArea, Damaged}
-use Rattle.record.proofs.Saying.{refused-number}
-use Rattle.wholeness.specs.Gates.{gateOf, gated}
-use Rattle.wholeness.specs.declared.Gate.{Gate}
-use Rattle.wholeness.specs.declared.Gate.the-variants.{Shut}
-use Rattle.step_reports.specs.Reports.{behind, reportGate}
+use Rattle.record.specs.declared.Refusal.the-variants.{LogFull}
+use Rattle.wholeness.specs.Whole.{whole}
 use Rattle.log.specs.Log.{full}
 use Rattle.noting.specs.Recorded.{recorded}
-use Rattle.calls.specs.Calls.{Call, stepWith, step}
-use Rattle.calls.specs.Calls.Work.{structure, update, rollback}
-use Rattle.calls.specs.Calls.Report.{structured, updated, rolledBack}
-use Rattle.calls.specs.Calls.Call.{begin, ask, report, edit, commit, recover, recoverRetained, refresh, stamp, check}
-use Rattle.demand_steps.specs.Watching.{Heard, hears}
+use Rattle.calls.specs.Calls.{Call, step}
+use Rattle.demand_steps.specs.Watching.{Heard, hears, Watch, sees, watch}
 use Rattle.demand_chains.specs.Chains.{after, heard}
 use Rattle.demand_chains.specs.Sending.{Sent, plainly, answered, afterSent, heardSent}
-use Rattle.demand_steps.proofs.Unseen.{unseen}
+use Rattle.demand_steps.proofs.Own.{own, answers}
 use Rattle.demand_steps.proofs.Leaf.{Leaf}
-use Rattle.demand_steps.proofs.Leaf.Leaf.{kept}
-use Rattle.demand_steps.proofs.Classify.{leaf}
+use Rattle.demand_steps.proofs.Classify.{refuses, classify}
 
-module _ (r : Record) where
-  refuses : (c : Call) (why : Refusal) → Leaf r c (refuse why r)
-  refuses c why = kept (unseen c _ _ (refused-number why))
+-- what holds of refusals and of a call's own holds of the call that is sent
+pub sent-answers : (P : Told → Type 0) (r : Record) → ((why : Refusal) → P (refuse why r)) → (s : Sent) → (whole r ≡ true → P (own r (s .call))) → P (answered r s)
+unfolding answered
+sent-answers P r f s g = each P _ (f LogFull) (answers P r f (s .sized) (s .sound) (s .call) g)
 
-  -- a gate that is shut: a wrong size is 6, and a log's head that is not sound 7
-  record Shutting (g : Gate) : Type 0 where
-    why : Refusal
-    is-shut : g ≡ Shut why
+pub sent-leaf : (r : Record) (s : Sent) → Leaf r (s .call) (answered r s)
+sent-leaf r s = sent-answers (Leaf r (s .call)) r (refuses r) s (λ w. classify r (s .call))
 
-  shutting : (sized sound : Bool) → sized and sound ≡ false → Shutting (gateOf sized sound r)
-  unfolding gateOf pick _and_
-  shutting true true h = never h
-  shutting true false h = record { why = Damaged; is-shut = refl }
-  shutting false sound h = record { why = BadArea; is-shut = refl }
-
-  module _ (sized sound : Bool) (h : sized and sound ≡ false) where
-    at-gate : (c : Call) (x : Told) → Leaf r c (gated (gateOf sized sound r) r x)
-    unfolding gated
-    at-gate c x = let g = shutting sized sound h in subst (λ (y : Gate). Leaf r c (gated y r x)) (sym (g .is-shut)) (refuses c (g .why))
-
-    at-report : (c : Call) (x : Told) (second : Gate) → Leaf r c (gated (behind (gateOf sized sound r) second) r x)
-    unfolding gated behind
-    at-report c x second =
-        let g = shutting sized sound h in
-        subst (λ (y : Gate). Leaf r c (gated (behind y second) r x)) (sym (g .is-shut)) (refuses c (g .why))
-
-    -- stamps and checks are lent nothing, and do their step
-    unopened : (c : Call) → Leaf r c (stepWith sized sound r c)
-    unfolding reportGate
-    unopened (begin structural c o n) = at-gate _ _
-    unopened (ask structure) = at-gate _ _
-    unopened (ask update) = at-gate _ _
-    unopened (ask rollback) = at-gate _ _
-    unopened (report (structured c o) t x) = at-report _ _ _
-    unopened (report updated t x) = at-report _ _ _
-    unopened (report rolledBack t x) = at-report _ _ _
-    unopened (edit c o) = at-gate _ _
-    unopened commit = at-gate _ _
-    unopened (recover n) = at-gate _ _
-    unopened recoverRetained = at-gate _ _
-    unopened (refresh n) = at-gate _ _
-    unopened (stamp domain) = leaf r (stamp domain)
-    unopened (check domain d v) = leaf r (check domain d v)
-
-  stepped : (sized sound : Bool) (c : Call) → Leaf r c (stepWith sized sound r c)
-  unfolding _and_
-  stepped true true c = leaf r c
-  stepped true false c = unopened true false refl c
-  stepped false sound c = unopened false sound refl c
-
-  pick-leaf : {c : Call} {x y : Told} (b : Bool) → Leaf r c x → Leaf r c y → Leaf r c (pick b x y)
-  unfolding pick
-  pick-leaf true p q = p
-  pick-leaf false p q = q
-
-  pub sent-leaf : (s : Sent) → Leaf r (s .call) (answered r s)
-  unfolding answered
-  sent-leaf s = pick-leaf _ (refuses (s .call) LogFull) (stepped (s .sized) (s .sound) (s .call))
+pub chain-keeps : (P : Watch → Record → Type 0) → ((w : Watch) (r : Record) (c : Call) (x : Told) → Leaf r c x → P w r → P (sees w c (saidOf x)) (x .state)) →
+    (w : Watch) (r : Record) (ss : List Sent) → P w r → P (watch w (heardSent r ss)) (afterSent r ss)
+unfolding watch heardSent afterSent
+chain-keeps P f w r [] p = p
+chain-keeps P f w r (s ∷ ss) p = chain-keeps P f _ _ ss (f w r _ _ (sent-leaf r s) p)
 
 -- a plain chain is a chain of calls that are sent plainly
 module _ (r : Record) where

@@ -20,7 +20,7 @@ module _ (r : Record) where
   -- without a log nothing is full
   no-log : (sized : Bool) (c : AnyCall) → stepOf sized true r c ≡ answeredAny sized true false r c
   unfolding answered
-  no-log sized (opens v s l) = refl
+  no-log sized (opens given l) = refl
   no-log sized (calls c) = no _ (no-right _ refl) refl
 
   pub sent-transaction : (c : Lending false) → leavesOf r c .told ≡ answeredAny (fits c) true false r (callOf c)
@@ -29,7 +29,7 @@ module _ (r : Record) where
   through : (log : List ℕ) (sized sound : Bool) (c : AnyCall) (lent moved : List (List ℕ)) →
       logs c (stepOf sized sound r c) r log lent moved .told ≡ answeredAny sized sound (full log) r c
   unfolding answered
-  through log sized sound (opens v s l) lent moved = refl
+  through log sized sound (opens given l) lent moved = refl
   through log sized sound (calls c) lent moved = recorded-answer _ _ _ r log lent moved
 
   pub sent-recorder : (log : List ℕ) (c : Lending true) →

@@ -9,76 +9,72 @@ use lib.Dec.{eqb}
 use lib.ListN.{getD}
 use borrow.Author.Tests.{eq-eqb, ne-eqb}
 use Rattle.choice.specs.Pick.{pick, _and_}
-use Rattle.choice.proofs.Tests.{test, eqb-ne, tests}
-use Rattle.record.specs.Answers.{Told, Said, said}
+use Rattle.choice.proofs.Picks.{picked}
+use Rattle.choice.proofs.Tests.{never, test, eqb-ne, tests}
+use Rattle.record.specs.Classes.{refused}
+use Rattle.record.specs.Classes.Class.{performed}
+use Rattle.record.specs.Answers.{Told, Said, said, told, saidOf, refuse}
 use Rattle.record.specs.Fields.{top}
 use Rattle.record.specs.declared.Record.{Record}
+use Rattle.record.specs.declared.Refusal.{Refusal}
 use Rattle.wholeness.specs.Whole.{whole}
-use Rattle.step_stamps.specs.Stamping.{passes}
+use Rattle.step_stamps.specs.Stamping.{saysStamping, saysChecked, stampOf, passes}
+use Rattle.step_stamps.specs.declared.SaveStamp.{SaveStamp}
+use Rattle.step_stamps.specs.declared.Stamping.the-variants.{Taken}
+use Rattle.step_stamps.specs.declared.Checked.the-variants.{Passes, Fails}
 use Rattle.calls.specs.Calls.{step}
 use Rattle.calls.specs.Calls.Call.{stamp, check}
 use Rattle.demand_chains.specs.Sending.{Sent, afterSent, heardSent}
-use Rattle.demand_steps.specs.Watching.{hears, Watch, watch, unwatched}
+use Rattle.demand_steps.specs.Watching.{Watch, watch, unwatched}
 use Rattle.demand_chains.specs.Promises.{stampPasses}
-use Rattle.demand_steps.proofs.Own.{own, whole-step, damaged-step}
+use Rattle.demand_steps.proofs.Own.{own, whole-step, answers}
 use Rattle.demand_chains.proofs.Chain.{whole-chain}
-use Rattle.demand_chains.proofs.Revision.{chain-gains}
-use Rattle.demand_chains.proofs.Running.{chain-runs}
+use Rattle.demand_chains.proofs.Revision.{chain-runs, chain-gains}
 
--- a stamp that was taken is of a whole record, and carries its revision
-record Stamped (r : Record) (d a v : ℕ) : Type 0 where
+-- a stamp that was taken is of a whole record that is not staged, and carries its revision
+record Stamped (r : Record) (d : ℕ) (s : SaveStamp) : Type 0 where
   is-whole : whole r ≡ true
   idle : r .staged ≡ false
-  domain : a ≡ d
-  revision : v ≡ r .revision
+  is : s ≡ stampOf d r
 
-taken : (staged : Bool) (r : Record) (d a v : ℕ) → r .staged ≡ staged → whole r ≡ true → pick staged (said 1 []) (said 0 (d ∷ r .revision ∷ [])) ≡ said 0 (a ∷ v ∷ []) → Stamped r d a v
+-- the stamp again, from what was said
+heardStamp : Said → SaveStamp
+heardStamp a = record { domain = getD (a .values) 0 0; revision = getD (a .values) 1 0 }
+
+abbrev Stamping : Record → ℕ → SaveStamp → Told → Type 0
+Stamping r d s x = saidOf x ≡ saysStamping (Taken s) → Stamped r d s
+
+stamped : (r : Record) (d : ℕ) (s : SaveStamp) → Stamping r d s (step r (stamp d))
+unfolding own heardStamp
+stamped r d s = answers (Stamping r d s) r refuses true true (stamp d) (λ w. picked (Stamping r d s) (r .staged) (λ i. refuses _) (λ i h.
+    record { is-whole = w; idle = i; is = sym (ap heardStamp h) }))
+  where
+    refuses : (why : Refusal) → Stamping r d s (refuse why r)
+    refuses why h = never (ap (λ (a : Said). refused (a .class)) h)
+
+-- what a check answers on a whole record
+inside : (b : Bool) (r : Record) → saidOf (pick b (told (saysChecked Passes) r) (told (saysChecked Fails) r)) ≡ said performed (pick b 1 0 ∷ [])
 unfolding pick
-taken true r d a v i w h = let z : _≡_ {A = ℕ} 1 0 = ap (λ (s : Said). s .number) h in absurd (omega tests)
-taken false r d a v i w h = record {
-  is-whole = w;
-  idle = i;
-  domain = sym (ap (λ (s : Said). getD (s .values) 0 0) h);
-  revision = sym (ap (λ (s : Said). getD (s .values) 1 0) h);
-}
+inside true r = refl
+inside false r = refl
 
--- what both calls answer on a whole record
-answer-pick : (b : Bool) (x y : Told) → said ((pick b x y) .number) ((pick b x y) .values) ≡ pick b (said (x .number) (x .values)) (said (y .number) (y .values))
-unfolding pick
-answer-pick true x y = refl
-answer-pick false x y = refl
-
-abbrev heardAs : Told → Said
-heardAs t = said (t .number) (t .values)
-
-stamped : (r : Record) (d a v : ℕ) → hears (stamp d) (step r (stamp d)) .answer ≡ said 0 (a ∷ v ∷ []) → Stamped r d a v
+checked : (r : Record) (e : ℕ) (s : SaveStamp) → whole r ≡ true → saidOf (step r (check e s)) ≡ said performed (pick (passes r e s) 1 0 ∷ [])
 unfolding own
-stamped r d a v h =
-    test (whole r) (λ w. taken (r .staged) r d a v refl w (sym (ap heardAs (whole-step r (stamp d) w) ∙ answer-pick (r .staged) _ _) ∙ h))
-    (λ w. let z : _≡_ {A = ℕ} 7 0 = ap (λ (s : Said). s .number) (sym (ap heardAs (damaged-step r (stamp d) w)) ∙ h) in absurd (omega tests))
-
-inside : (b : Bool) → pick b (said 0 (1 ∷ [])) (said 0 (0 ∷ [])) ≡ said 0 (pick b 1 0 ∷ [])
-unfolding pick
-inside true = refl
-inside false = refl
-
-checked : (r : Record) (e a v : ℕ) → whole r ≡ true → hears (check e a v) (step r (check e a v)) .answer ≡ said 0 (pick (passes r e a v) 1 0 ∷ [])
-unfolding own
-checked r e a v w = ap heardAs (whole-step r (check e a v) w) ∙ answer-pick (passes r e a v) _ _ ∙ inside (passes r e a v)
+checked r e s w = ap saidOf (whole-step r (check e s) w) ∙ inside (passes r e s) r
 
 -- two numbers that differ by a count are equal exactly if it is 0
 same-by : (x y n : ℕ) → x ≡ y + n → eqb x y ≡ eqb n 0
 same-by x y n h = test (eqb n 0) (λ (e : eqb n 0 ≡ true). eq-eqb x y (omega tests) ∙ sym e) (λ (e : eqb n 0 ≡ false). ne-eqb x y (λ (i : x ≡ y). eqb-ne n 0 e (omega tests)) ∙ sym e)
 
-pub stamp-law : (r : Record) (d a v : ℕ) (ss : List Sent) (e : ℕ) → r .revision ≤ top → hears (stamp d) (step r (stamp d)) .answer ≡ said 0 (a ∷ v ∷ []) →
+pub stamp-law : (r : Record) (d : ℕ) (s : SaveStamp) (ss : List Sent) (e : ℕ) → r .revision ≤ top → saidOf (step r (stamp d)) ≡ saysStamping (Taken s) →
     let w = watch unwatched (heardSent r ss) in
-    hears (check e a v) (step (afterSent r ss) (check e a v)) .answer ≡ said 0 (pick (stampPasses (w .running) e d (w .commits)) 1 0 ∷ [])
+    saidOf (step (afterSent r ss) (check e s)) ≡ said performed (pick (stampPasses (w .running) e d (w .commits)) 1 0 ∷ [])
 unfolding passes unwatched stampPasses
-stamp-law r d a v ss e m h =
-    let s = stamped r d a v h in
+stamp-law r d s ss e m h =
+    let t = stamped r d s h in
     let g = chain-gains unwatched r ss in
     let w : Watch = watch unwatched (heardSent r ss) in
-    checked (afterSent r ss) e a v (whole-chain r ss m (s .is-whole))
-    ∙ ap (λ (b : Bool). said 0 (pick (not b and eqb e a and eqb (afterSent r ss .revision) v) 1 0 ∷ [])) (sym (chain-runs unwatched r ss (sym (s .idle))))
-    ∙ ap (λ (n : ℕ). said 0 (pick (not (w .running) and eqb e n and eqb (afterSent r ss .revision) v) 1 0 ∷ [])) (s .domain)
-    ∙ ap (λ (b : Bool). said 0 (pick (not (w .running) and eqb e d and b) 1 0 ∷ [])) (same-by (afterSent r ss .revision) v (w .commits) (omega (arith, s .revision)))
+    let q : Record = afterSent r ss in
+    rw (t .is) (checked q e (stampOf d r) (whole-chain r ss m (t .is-whole)))
+    ∙ ap (λ (b : Bool). said performed (pick (not b and eqb e d and eqb (q .revision) (r .revision)) 1 0 ∷ [])) (sym (chain-runs unwatched r ss (sym (t .idle))))
+    ∙ ap (λ (b : Bool). said performed (pick (not (w .running) and eqb e d and b) 1 0 ∷ [])) (same-by (q .revision) (r .revision) (w .commits) (omega arith))

@@ -1,20 +1,21 @@
 -- Demand 3: what holds of every chain of calls, from an opening that is not refused. Assumes nothing.
 use Prim.Native.Nat.{ℕ, _+_, _≤_}
-use mathlib.Core.Path.{_≡_, refl, ap}
-use mathlib.Core.Bool.{Bool, true, false, not}
+use mathlib.Core.Path.{_≡_, refl, sym}
+use mathlib.Core.Bool.{Bool, true, false}
 use mathlib.Core.List.{List}
 use mathlib.Core.Logic.{_≢_}
 use native.Mathlib.Omega.{arith}
-use lib.Dec.{ltb}
 use lib.ListN.{length}
 use borrow.Author.Tests.{ltb-false}
-use Rattle.choice.specs.Pick.{pick}
+use Rattle.choice.proofs.Tests.{never}
 use Rattle.areas.specs.Areas.{long, areaSize}
+use Rattle.record.specs.Classes.{successful}
 use Rattle.record.specs.Answers.{Told}
 use Rattle.record.specs.Fields.{top}
 use Rattle.record.specs.declared.Record.{Record}
+use Rattle.record.specs.declared.Opening.{Opening}
 use Rattle.wholeness.specs.Whole.{whole}
-use Rattle.step_begins.specs.Opening.{opening, openStep}
+use Rattle.step_begins.specs.Opening.{unopened, openBars, opening, openStep}
 use Rattle.calls.specs.Calls.{Call}
 use Rattle.demand_chains.specs.Sending.{Sent, afterSent, heardSent}
 use Rattle.demand_steps.specs.Watching.{Watch, watch, unwatched}
@@ -22,6 +23,8 @@ use Rattle.demand_chains.specs.Plans.{planned, plannedBack, due}
 use Rattle.demand_chains.specs.Promises.{revisionAfter, Forward, Backward, Asking}
 use Rattle.demand_chains.specs.Progress.{counted, wanted, Progress, Finishes}
 use Rattle.demand_chains.specs.Turning.{recoveredIn, UntilRecovery, Recoveries, back, untouched}
+use Rattle.demand_chains.specs.DemandThree.{DemandThree}
+use Rattle.demand_steps.proofs.Own.{row}
 use Rattle.demand_steps.proofs.Facts.Stage.{flat}
 use Rattle.demand_steps.proofs.Facts.Calm.{off}
 use Rattle.demand_steps.proofs.Wholeness.{whole-test}
@@ -29,30 +32,11 @@ use Rattle.demand_chains.proofs.Course.Kind.{updateOnly}
 use Rattle.demand_chains.proofs.Course.Course.{ahead}
 use Rattle.demand_chains.proofs.Chain.{Good, good-chain}
 use Rattle.demand_chains.proofs.Revision.{chain-gains}
-use Rattle.demand_chains.proofs.Exactly.{forward-law, backward-law}
-use Rattle.demand_chains.proofs.Asking.{asking-law}
-use Rattle.demand_chains.proofs.Progress.{progress-law}
-use Rattle.demand_chains.proofs.Finishing.{finish-law}
-use Rattle.demand_chains.proofs.Turning.{turned-law}
-use Rattle.demand_chains.proofs.Recovering.{back-law, early-law}
+use Rattle.demand_chains.proofs.Demands.{demand-three}
 
--- of three picks, the last
-third : (b c : Bool) (x y z : Told) → x .number ≢ 0 → y .number ≢ 0 → (pick b x (pick c y z)) .number ≡ 0 → (pick b x (pick c y z) ≡ z) × (c ≡ false)
-unfolding pick
-third true c x y z p q h = absurd (p h)
-third false true x y z p q h = absurd (q h)
-third false false x y z p q h = (refl, refl)
-
--- an opening that is not refused gives the record of that opening
-opened : (sized : Bool) (v s l : ℕ) → openStep sized v s l .number ≡ 0 → (openStep sized v s l .state ≡ opening v s l) × (l ≤ areaSize)
-unfolding openStep long
-opened sized v s l h =
-    let x = third (not sized) (ltb areaSize l) _ _ _ (λ (e : _≡_ {A = ℕ} 6 0). omega arith) (λ (e : _≡_ {A = ℕ} 8 0). omega arith) h in
-    (ap (λ (t : Told). t .state) (x .0), ltb-false _ _ (x .1))
-
-good-opening : (v s l : ℕ) → v ≤ top → l ≤ areaSize → Good unwatched (opening v s l)
+good-opening : (given : Opening) (l : ℕ) → given .revision ≤ top → l ≤ areaSize → Good unwatched (opening given l)
 unfolding opening unwatched
-good-opening v s l m h = record {
+good-opening given l m h = record {
   is-whole = record {
     lengths = record { accepted = h; candidate = omega arith; recovery = omega arith };
     size = omega arith;
@@ -63,55 +47,67 @@ good-opening v s l m h = record {
   tied = record { running = refl; turning = refl; kind = updateOnly refl refl; last = tt; course = ahead refl refl refl refl refl };
 }
 
+-- an opening that is not refused gives the record of that opening
+module _ (sized : Bool) (given : Opening) (l : ℕ) (m : given .revision ≤ top) where
+  abbrev Opened : Told → Type 0
+  Opened x = successful (x .class) ≡ true → Good unwatched (x .state) × (x .state .revision ≡ given .revision)
+
+  opened : Opened (openStep sized given l)
+  unfolding openStep opening long
+  opened = row Opened unopened (λ why e. never (sym e)) (openBars sized l) (λ x e. (good-opening given l m (ltb-false _ _ (x .1 .0)), refl))
+
 -- "In such a chain from an opening that is not refused, the log aside and every area of the right size"; the revision is a u64
-module _ (sized : Bool) (v s l : ℕ) (m : v ≤ top) (o : openStep sized v s l .number ≡ 0) (ss : List Sent) where
+module _ (sized : Bool) (given : Opening) (l : ℕ) (m : given .revision ≤ top) (o : successful (openStep sized given l .class) ≡ true) (ss : List Sent) where
   abbrev now : Record
-  now = afterSent (openStep sized v s l .state) ss
+  now = afterSent (openStep sized given l .state) ss
 
   abbrev seen : Watch
-  seen = watch unwatched (heardSent (openStep sized v s l .state) ss)
+  seen = watch unwatched (heardSent (openStep sized given l .state) ss)
 
   pub good : Good seen now
-  good = let x = opened sized v s l o in rw (x .0) (good-chain unwatched (opening v s l) ss (good-opening v s l m (x .1)))
+  good = good-chain unwatched _ ss (opened sized given l m o .0)
+
+  pub demands : DemandThree (given .revision) now seen
+  unfolding unwatched
+  demands = demand-three _ seen now good (let g = chain-gains unwatched (openStep sized given l .state) ss in omega (arith, opened sized given l m o .1))
 
   -- "the revision is the opening one plus the successful commits"
-  pub revision-law : now .revision ≡ revisionAfter v (seen .commits)
-  unfolding opening unwatched
-  revision-law = let x = opened sized v s l o in rw (x .0) (let g = chain-gains unwatched (opening v s l) ss in omega arith)
+  pub revision-law : now .revision ≡ revisionAfter (given .revision) (seen .commits)
+  revision-law = demands .revision-law
 
   -- "For a staged transaction of n updates with no rollback granted, commit succeeds exactly after 5 + n Done reports .."
   pub commit-exactly : seen .running ≡ true → seen .turned ≡ false → Forward now seen
-  commit-exactly = forward-law seen now good
+  commit-exactly = demands .commit-exactly
 
   -- "After its first granted rollback, with k updates started, recovery from the retained payload succeeds exactly after k + 4 .."
   pub recovery-exactly : seen .running ≡ true → seen .turned ≡ true → Backward now seen
-  recovery-exactly = backward-law seen now good
+  recovery-exactly = demands .recovery-exactly
 
   -- "Until then the due asking of document 01 is granted, unless the serial is at its maximum"
   pub never-locked : seen .running ≡ true →
       (seen .turned ≡ false → length (seen .done) ≢ planned (seen .structural) (seen .size)) →
       (seen .turned ≡ true → length (seen .undone) ≢ plannedBack (seen .structural) (seen .started)) → Asking now
-  never-locked = asking-law seen now good
+  never-locked = demands .never-locked
 
   -- "no count of waits, failures or refusals locks a transaction": the due asking leads on
   pub progress : (c : Call) → due now c ≡ true → Progress now seen c
-  progress = progress-law seen now good
+  progress = demands .progress
 
   -- so that some asks and reports lead to the end, where the serial has room for the tickets that are left
   pub finishes : seen .running ≡ true → now .serial + wanted seen ≤ top + counted seen → Finishes now seen
-  finishes = finish-law seen now good
+  finishes = demands .finishes
 
   -- "After its first granted rollback, with k updates started": whatever else is called, until a recovery is performed
   pub until-recovery : (us : List Sent) → seen .running ≡ true → seen .turned ≡ true → recoveredIn (heardSent now us) ≡ false →
       UntilRecovery seen (watch seen (heardSent now us)) (afterSent now us)
-  until-recovery us = turned-law seen now us good
+  until-recovery = demands .until-recovery
 
   -- both recoveries, after a granted rollback and with none granted
   pub recovery-back : seen .running ≡ true → seen .turned ≡ true → Recoveries now (back seen)
-  recovery-back = back-law seen now good
+  recovery-back = demands .recovery-back
 
   pub recovery-early : seen .running ≡ true → seen .turned ≡ false → Recoveries now (untouched seen)
-  recovery-early = early-law seen now good
+  recovery-early = demands .recovery-early
 
   -- the watcher knows whether something is staged, and the record is whole throughout
   pub staged-known : (seen .running ≡ now .staged) × (whole now ≡ true)

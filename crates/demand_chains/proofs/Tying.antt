@@ -1,55 +1,59 @@
 -- What the watcher knows ties to the record, and stays tied through every call. Assumes nothing.
 use Prim.Native.Nat.{ℕ, _-_, _≤_, _<_}
 use mathlib.Core.Path.{_≡_, refl, sym, _∙_, ap}
-use mathlib.Core.Bool.{Bool}
-use mathlib.Core.List.{[]}
+use mathlib.Core.Bool.{Bool, true, false}
 use native.Mathlib.Omega.{arith}
 use lib.Dec.{eqb, leb}
 use borrow.Author.Tests.{eqb-true}
-use Rattle.choice.specs.Pick.{pick, _and_, _or_}
+use Rattle.choice.specs.Pick.{pick, _and_}
 use Rattle.choice.proofs.Tests.{test, eqb-ne}
-use Rattle.record.specs.Answers.{Told, said}
+use Rattle.record.specs.Answers.{Told, saidOf}
+use Rattle.record.specs.Live as Tickets
 use Rattle.record.specs.Fields.{adopting}
 use Rattle.record.specs.declared.Record.{Record}
-use Rattle.step_begins.specs.Beginning.{begun}
+use Rattle.step_begins.specs.Beginning.{firstPhase, begun}
 use Rattle.step_asks.specs.Asks.{turned}
-use Rattle.step_reports.specs.Done.{leaving}
 use Rattle.step_ends.specs.Ending.{idleAt}
 use Rattle.calls.specs.Calls.{Call}
-use Rattle.demand_steps.specs.Watching.{Watch, applies, undoes, sees}
+use Rattle.calls.specs.Calls.Report.{updated, rolledBack}
+use Rattle.demand_steps.specs.Watching.{Watch, isFor, sees}
 use Rattle.demand_steps.specs.Watching.Item.{apply, undo}
-use Rattle.demand_steps.proofs.Leaf.{Leaf}
-use Rattle.demand_steps.proofs.Leaf.Leaf.{kept, began, beganStructural, structureAsked, updateEnded, updateAsked, rollbackEnded, turnedEmpty, turnedAsked, waited, waitedStoring, went, updateLast, updateMore, undoLast, undoMore, edited, committed, recovered, restored, refreshed}
+use Rattle.demand_steps.proofs.Leaf.{Goes, Leaf}
+use Rattle.demand_steps.proofs.Leaf.Goes.{last, more}
+use Rattle.demand_steps.proofs.Leaf.Leaf.{kept, began, structureAsked, updateEnded, updateAsked, rollbackEnded, turnedEmpty, turnedAsked, waited, went, updateTaken, undoTaken, committed, recovered, restored}
 use Rattle.demand_steps.proofs.Facts.{Whole, tests, byCase}
 use Rattle.demand_steps.proofs.Testing.{ranges}
 use Rattle.demand_steps.proofs.Moves as M
 use Rattle.demand_steps.proofs.Moves.{choice, inBatch, inUndo}
-use Rattle.demand_steps.proofs.Tickets.{is-structure, is-update, is-rollback, onStructure, onUpdate, onRollback, ended}
+use Rattle.demand_steps.proofs.Tickets.{is-live, onStructure, onUpdate, onRollback, ended}
 use Rattle.demand_chains.proofs.Course.{Kind, started, turn, lower, raise, same-kind}
 use Rattle.demand_chains.proofs.Course.Kind.{updateOnly, structural}
 use Rattle.demand_chains.proofs.Course.Course.{ahead}
 use Rattle.demand_chains.proofs.Noting.{Tied, note-ahead, note-behind, undo-back, advances}
 
 -- the kind of transaction stays while the phase moves
-adopts : {s : Bool} (p : ℕ) → Kind s p → Kind s (pick (eqb p 5) 6 p)
-adopts p k = let c = choice p 5 6 p in same-kind k (λ z. c .isnt (omega arith) ∙ z) (λ z. test (eqb p 5) (λ e. omega (tests, c .is (eqb-true _ _ e))) (λ e. omega (tests, c .isnt (eqb-ne _ _ e))))
-
-leaves : {s : Bool} (p : ℕ) → Kind s p → Kind s (pick (eqb p 8) 9 p)
-leaves p k = let c = choice p 8 9 p in same-kind k (λ z. c .isnt (omega arith) ∙ z) (λ z. test (eqb p 8) (λ e. omega (tests, c .is (eqb-true _ _ e))) (λ e. omega (tests, c .isnt (eqb-ne _ _ e))))
+goes : {s : Bool} {i n x y p q : ℕ} → 0 < x → 0 < y → Goes i n x y p q → Kind s p → Kind s q
+goes h j (more e) k = k
+goes {x = x} {y = y} {p = p} h j (last e) k = let c = choice p x y p in
+    same-kind k (λ z. c .isnt (omega arith) ∙ z) (λ z. test (eqb p x) (λ d. omega (tests, c .is (eqb-true _ _ d))) (λ d. omega (tests, c .isnt (eqb-ne _ _ d))))
 
 turns : {s : Bool} (p to : ℕ) → 1 ≤ to → Kind s p → Kind s (pick (leb 1 p and leb p 7) to p)
 turns p to m k = let c = M.turn p to in same-kind k (λ z. c .flat z) (λ z. byCase p 8 (λ (y : p < 8). omega (arith, c .goes z (omega arith))) (λ (y : 8 ≤ p). omega (arith, c .stays y)))
 
-pub tie : {r : Record} {c : Call} {x : Told} (w : Watch) → Whole r → Tied w r → Leaf r c x → Tied (sees w c (said (x .number) (x .values))) (x .state)
-unfolding sees begun turned adopting leaving idleAt pick _or_
-tie w h d (kept u) = rw (u w) d
-tie w h d (began z i l c o m) = record { running = refl; turning = refl; kind = updateOnly refl z; last = tt; course = ahead refl refl refl refl refl }
-tie w h d (beganStructural z i l c o m) = record { running = refl; turning = refl; kind = structural refl (omega arith); last = tt; course = ahead refl refl refl refl refl }
+first : (structural : Bool) → Kind structural (firstPhase structural)
+unfolding firstPhase pick
+first true = structural refl (omega arith)
+first false = updateOnly refl refl
+
+pub tie : {r : Record} {c : Call} {x : Told} (w : Watch) → Whole r → Tied w r → Leaf r c x → Tied (sees w c (saidOf x)) (x .state)
+unfolding sees begun turned adopting idleAt pick
+tie w h d (kept u f) = rw (u w) record { running = d .running; turning = d .turning; kind = d .kind; last = d .last; course = d .course }
+tie w h d (began {structural = s} i l f m) = record { running = refl; turning = refl; kind = first s; last = tt; course = ahead refl refl refl refl refl }
 tie w h d (structureAsked y) = record { running = d .running; turning = d .turning; kind = d .kind; last = (refl, refl); course = d .course }
-tie {r} w h d (updateEnded u e s) = record {
+tie w h d (updateEnded u e s) = record {
   running = d .running;
   turning = d .turning;
-  kind = adopts (r .phase .number) (d .kind);
+  kind = goes (omega arith) (omega arith) (last s) (d .kind);
   last = rw (ended h u e s) tt;
   course = d .course;
 }
@@ -69,52 +73,29 @@ tie {r} w h d (turnedAsked p n) = record {
   last = (refl, refl);
   course = turn (d .course) (ranges (h .stage) .behind .early p) (ranges (h .stage) .turned .all);
 }
-tie w h d (waited u) = rw (u w) record { running = d .running; turning = d .turning; kind = d .kind; last = tt; course = d .course }
-tie w h d (waitedStoring u i j) = rw (u w) record { running = d .running; turning = d .turning; kind = d .kind; last = tt; course = d .course }
-tie {r} w h d (went {t = t} {new = new} {old = old} {n = n} o l i j) =
-    advances w n t new old h d o (onStructure h l .apart) (rw (is-structure (r .live) t l) at (d .last))
-tie {r} w h d (updateLast {t = t} l n) =
-    let o = onUpdate h l in
-    let q : (w .ticket ≡ t) × (w .item ≡ apply (r .applied)) = rw (is-update (r .live) t l) at (d .last) in
-    rw (note-ahead applies 24 t [] w refl (q .0) (ap applies (q .1)) (d .turning ∙ o .ahead)) record {
+tie w h d (waited u f) = rw (u w) record { running = d .running; turning = d .turning; kind = d .kind; last = tt; course = d .course }
+tie {r} w h d (went {t = t} {n = new} {o = old} {s = a} o l f) =
+    advances w a t new old h d o (onStructure h l .apart) (rw (is-live Tickets.structure t (r .live) l) at (d .last))
+tie {r} w h d (updateTaken {t = t} {s = a} o l g) =
+    let y = onUpdate h l in
+    let q : (w .ticket ≡ t) × (w .item ≡ apply (r .applied)) = rw (is-live Tickets.update t (r .live) l) at (d .last) in
+    rw (note-ahead updated t a w o (q .0) (ap (isFor updated) (q .1)) (d .turning ∙ y .ahead)) record {
       running = d .running;
       turning = d .turning;
-      kind = adopts (r .phase .number) (d .kind);
+      kind = goes (omega arith) (omega arith) g (d .kind);
       last = tt;
-      course = raise (inBatch (h .stage) (o .place) (o .ahead)) (d .kind) (d .course) (o .ahead) (omega arith) (q .1);
+      course = raise (inBatch (h .stage) (y .place) (y .ahead)) (d .kind) (d .course) (y .ahead) (omega (arith, h .size, y .tried)) (q .1);
     }
-tie {r} w h d (updateMore {t = t} l n) =
-    let o = onUpdate h l in
-    let q : (w .ticket ≡ t) × (w .item ≡ apply (r .applied)) = rw (is-update (r .live) t l) at (d .last) in
-    rw (note-ahead applies 23 t [] w refl (q .0) (ap applies (q .1)) (d .turning ∙ o .ahead)) record {
+tie {r} w h d (undoTaken {t = t} {s = a} o l g) =
+    let y = onRollback h l in
+    let q : (w .ticket ≡ t) × (w .item ≡ undo (r .entries - 1)) = rw (is-live Tickets.rollback t (r .live) l) at (d .last) in
+    rw (note-behind rolledBack t a w o (q .0) (ap (isFor rolledBack) (q .1)) (d .turning ∙ y .behind)) record {
       running = d .running;
       turning = d .turning;
-      kind = d .kind;
+      kind = goes (omega arith) (omega arith) g (d .kind);
       last = tt;
-      course = raise (inBatch (h .stage) (o .place) (o .ahead)) (d .kind) (d .course) (o .ahead) (omega (arith, h .size, o .tried)) (q .1);
+      course = lower (d .course) (y .behind) (undo-back (inUndo (h .stage) (y .behind) (y .some))) (y .some) (q .1);
     }
-tie {r} w h d (undoLast {t = t} l n) =
-    let o = onRollback h l in
-    let q : (w .ticket ≡ t) × (w .item ≡ undo (r .entries - 1)) = rw (is-rollback (r .live) t l) at (d .last) in
-    rw (note-behind undoes 24 t [] w refl (q .0) (ap undoes (q .1)) (d .turning ∙ o .behind)) record {
-      running = d .running;
-      turning = d .turning;
-      kind = leaves (r .phase .number) (d .kind);
-      last = tt;
-      course = lower (d .course) (o .behind) (undo-back (inUndo (h .stage) (o .behind) (o .some))) (o .some) (q .1);
-    }
-tie {r} w h d (undoMore {t = t} l n) =
-    let o = onRollback h l in
-    let q : (w .ticket ≡ t) × (w .item ≡ undo (r .entries - 1)) = rw (is-rollback (r .live) t l) at (d .last) in
-    rw (note-behind undoes 23 t [] w refl (q .0) (ap undoes (q .1)) (d .turning ∙ o .behind)) record {
-      running = d .running;
-      turning = d .turning;
-      kind = d .kind;
-      last = tt;
-      course = lower (d .course) (o .behind) (undo-back (inUndo (h .stage) (o .behind) (o .some))) (o .some) (q .1);
-    }
-tie w h d (edited i j) = record { running = d .running; turning = d .turning; kind = d .kind; last = d .last; course = d .course }
 tie w h d (committed i) = record { running = refl; turning = refl; kind = updateOnly refl refl; last = tt; course = ahead refl refl refl refl refl }
 tie w h d (recovered i) = record { running = refl; turning = refl; kind = updateOnly refl refl; last = tt; course = ahead refl refl refl refl refl }
 tie w h d restored = record { running = refl; turning = refl; kind = updateOnly refl refl; last = tt; course = ahead refl refl refl refl refl }
-tie w h d (refreshed i) = record { running = d .running; turning = d .turning; kind = d .kind; last = d .last; course = d .course }

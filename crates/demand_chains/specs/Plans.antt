@@ -43,12 +43,12 @@ unfoldable pub due : Record → Call → Bool
 due r (ask structure) = hasSuccessor (r .phase .number)
 due r (ask update) = eqb (r .phase .number) updates or eqb (r .phase .number) none and not (r .restoring) and ltb (r .applied) (r .entries)
 due r (ask rollback) = r .restoring and ltb 0 (r .entries)
-due r (begin structural c o n) = false
-due r (report k t x) = false
+due r (begin structural b) = false
+due r (report of t x) = false
 due r (edit c o) = false
 due r commit = false
 due r (recover n) = false
 due r recoverRetained = false
 due r (refresh n) = false
 due r (stamp domain) = false
-due r (check domain d v) = false
+due r (check domain s) = false

@@ -8,17 +8,21 @@ use lib.ListN.{length}
 use Rattle.choice.specs.Pick.{pick, _and_}
 use Rattle.phases.specs.Phases.{updates, adopt}
 use Rattle.areas.specs.Areas.{areaSize}
-use Rattle.record.specs.Answers.{said}
+use Rattle.record.specs.Classes.{successful, taken}
+use Rattle.record.specs.Classes.Class.{stepping}
+use Rattle.record.specs.Classes.StepAnswer.{finished}
+use Rattle.record.specs.Answers.{says, saidOf}
 use Rattle.record.specs.Fields.{withPlace}
 use Rattle.record.specs.declared.Record.{Record}
 use Rattle.record.specs.declared.Outcome.the-variants.{Done}
+use Rattle.record.specs.declared.Answer.the-variants.{Ticket}
 use Rattle.calls.specs.Calls.{Call, step}
 use Rattle.calls.specs.Calls.Work.{structure, update, rollback}
 use Rattle.calls.specs.Calls.Report.{structured, updated, rolledBack}
 use Rattle.calls.specs.Calls.Call.{ask, report, commit, recoverRetained}
 use Rattle.calls.specs.Kinds.{kindOf, stepKind}
 use Rattle.demand_chains.specs.Chains.{after, heard}
-use Rattle.demand_steps.specs.Watching.{hears, Watch, performed, taken, watch}
+use Rattle.demand_steps.specs.Watching.{Watch, watch}
 use Rattle.demand_chains.specs.Plans.{planned, plannedBack}
 
 -- the report of a ticket that an asking was answered with: of its kind of work, Done, "payloads" of at most 4,096 bytes
@@ -38,7 +42,7 @@ wanted w = pick (w .turned) (plannedBack (w .structural) (w .started)) (planned 
 
 -- an asking and then the report of its ticket: "Done reports that are taken", one more, of as many as before
 pub record Counts (r : Record) (w : Watch) (asking report : Call) : Type 0 where
-  pub is-taken : taken (hears report (step (step r asking .state) report) .answer) ≡ true
+  pub is-taken : taken (step (step r asking .state) report .class) ≡ true
   pub one-more : counted (watch w (heard r (asking ∷ report ∷ []))) ≡ counted w + 1
   pub as-many : wanted (watch w (heard r (asking ∷ report ∷ []))) ≡ wanted w
 
@@ -50,8 +54,8 @@ pub record MovesOn (r : Record) (w : Watch) (asking : Call) : Type 0 where
 
 -- "no count of waits, failures or refusals locks a transaction": what the due asking leads to, either way that it is granted
 pub record Progress (r : Record) (w : Watch) (asking : Call) : Type 0 where
-  pub counts : (t i : ℕ) (report : Call) → hears asking (step r asking) .answer ≡ said 20 (t ∷ i ∷ []) → DoneReport t asking report → Counts r w asking report
-  pub moves-on : step r asking .number ≡ 24 → MovesOn r w asking
+  pub counts : (t i : ℕ) (report : Call) → saidOf (step r asking) ≡ says (Ticket t i) → DoneReport t asking report → Counts r w asking report
+  pub moves-on : step r asking .class ≡ stepping finished → MovesOn r w asking
 
 -- what ends the transaction: commit, and after a granted rollback recovery from the retained payload
 abbrev pub ending : Watch → Call
@@ -66,4 +70,4 @@ worked (c ∷ cs) = stepKind (kindOf c) and worked cs
 pub record Finishes (r : Record) (w : Watch) : Type 0 where
   pub calls : List Call
   pub by-work : worked calls ≡ true
-  pub ends : performed (hears (ending w) (step (after r calls) (ending w)) .answer) ≡ true
+  pub ends : successful (step (after r calls) (ending w) .class) ≡ true

@@ -6,11 +6,12 @@ use mathlib.Core.Logic.{_≢_}
 use lib.Dec.{eqb}
 use lib.ListN.{length}
 use Rattle.choice.specs.Pick.{_and_}
+use Rattle.record.specs.Classes.{successful, granted}
 use Rattle.record.specs.Fields.{top}
 use Rattle.record.specs.declared.Record.{Record}
 use Rattle.calls.specs.Calls.{Call, step}
 use Rattle.calls.specs.Calls.Call.{commit, recoverRetained}
-use Rattle.demand_steps.specs.Watching.{hears, Watch, performed, granted}
+use Rattle.demand_steps.specs.Watching.{Watch}
 use Rattle.demand_chains.specs.Plans.{planned, planAt, plannedBack, backAt, firsts, due}
 
 -- "a stamp taken in it passes exactly if nothing is staged, the domain is equal and no commit has succeeded since it was taken"
@@ -25,17 +26,17 @@ revisionAfter opening commits = opening + commits
 pub record Forward (r : Record) (w : Watch) : Type 0 where
   pub order : w .done ≡ firsts (planAt (w .structural) (w .size)) (length (w .done))
   pub within : length (w .done) ≤ planned (w .structural) (w .size)
-  pub exact : performed (hears commit (step r commit) .answer) ≡ eqb (length (w .done)) (planned (w .structural) (w .size))
+  pub exact : successful (step r commit .class) ≡ eqb (length (w .done)) (planned (w .structural) (w .size))
 
 -- "with k updates started, recovery from the retained payload succeeds exactly after k + 4 further Done reports that are taken (k if
 -- update-only), the k undos in reverse order"
 pub record Backward (r : Record) (w : Watch) : Type 0 where
   pub order : w .undone ≡ firsts (backAt (w .started)) (length (w .undone))
   pub within : length (w .undone) ≤ plannedBack (w .structural) (w .started)
-  pub exact : performed (hears recoverRetained (step r recoverRetained) .answer) ≡ eqb (length (w .undone)) (plannedBack (w .structural) (w .started))
+  pub exact : successful (step r recoverRetained .class) ≡ eqb (length (w .undone)) (plannedBack (w .structural) (w .started))
 
 -- "the due asking of document 01 is granted, unless the serial is at its maximum"
 pub record Asking (r : Record) : Type 0 where
   pub call : Call
   pub is-due : due r call ≡ true
-  pub is-granted : r .serial ≢ top → granted (hears call (step r call) .answer) ≡ true
+  pub is-granted : r .serial ≢ top → granted (step r call .class) ≡ true

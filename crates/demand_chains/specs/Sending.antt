@@ -1,9 +1,9 @@
 -- Chains of calls as they are sent, refused ones included: with areas of a wrong size, through a log whose head is not sound, or
 -- through one that is full. Assumes nothing.
-use Prim.Native.Nat.{ℕ}
 use mathlib.Core.Bool.{Bool, true, false}
 use mathlib.Core.List.{List, [], _∷_}
 use Rattle.choice.specs.Pick.{pick, _and_}
+use Rattle.record.specs.Classes.{Class}
 use Rattle.record.specs.Answers.{Told, refuse}
 use Rattle.record.specs.declared.Record.{Record}
 use Rattle.record.specs.declared.Refusal.the-variants.{LogFull}
@@ -26,14 +26,14 @@ abbrev pub plainly : Call → Sent
 plainly c = record { call = c; sized = true; sound = true; full = false }
 
 -- whether a call's answer is written as an event
-abbrev pub written : Call → ℕ → Bool
+abbrev pub written : Call → Class → Bool
 written c answer = writtenAs (kindOf c) answer
 
 -- the step; "Where an entry does not fit, 12 is the whole answer"
 unfoldable pub answered : Record → Sent → Told
 answered r s =
     let t = stepWith (s .sized) (s .sound) r (s .call) in
-    pick (written (s .call) (t .number) and s .full) (refuse LogFull r) t
+    pick (written (s .call) (t .class) and s .full) (refuse LogFull r) t
 
 -- "In one chain of calls, each given what the last left": the record after them, and what is heard of them
 unfoldable pub afterSent : Record → List Sent → Record
@@ -46,5 +46,5 @@ heardSent r (s ∷ ss) = hears (s .call) (answered r s) ∷ heardSent (answered 
 
 -- what any call answers, an opening too, by the same tests
 abbrev pub answeredAny : Bool → Bool → Bool → Record → AnyCall → Told
-answeredAny sized sound full r (opens revision serial accepted) = openStep sized revision serial accepted
+answeredAny sized sound full r (opens given accepted) = openStep sized given accepted
 answeredAny sized sound full r (calls c) = answered r (record { call = c; sized = sized; sound = sound; full = full })

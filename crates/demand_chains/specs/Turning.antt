@@ -7,17 +7,18 @@ use lib.Dec.{eqb}
 use lib.ListN.{length}
 use Rattle.choice.specs.Pick.{pick, _and_, _or_}
 use Rattle.areas.specs.Areas.{long}
+use Rattle.record.specs.Classes.{successful}
 use Rattle.record.specs.declared.Record.{Record}
 use Rattle.log.specs.Kinds as kinds
 use Rattle.calls.specs.Calls.{step}
 use Rattle.calls.specs.Calls.Call.{commit, recover, recoverRetained}
 use Rattle.calls.specs.Kinds.{kindOf}
-use Rattle.demand_steps.specs.Watching.{Heard, Watch, performed}
+use Rattle.demand_steps.specs.Watching.{Heard, Watch}
 use Rattle.demand_chains.specs.Plans.{plannedBack}
 
 -- a recovery that is performed
 abbrev pub recovers : Heard → Bool
-recovers h = (eqb (kindOf (h .call)) kinds.recover or eqb (kindOf (h .call)) kinds.recoverRetained) and performed (h .answer)
+recovers h = (eqb (kindOf (h .call)) kinds.recover or eqb (kindOf (h .call)) kinds.recoverRetained) and successful (h .answer .class)
 
 unfoldable pub recoveredIn : List Heard → Bool
 recoveredIn [] = false

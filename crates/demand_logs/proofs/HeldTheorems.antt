@@ -1,41 +1,70 @@
--- Demands 2 and 3 of a chain of real calls, each handed all that the last left. Assumes nothing.
+-- A chain of real calls, each handed all that the last left, has the records and the answers of the chain of calls as they are sent: so
+-- every theorem over those holds of it, and demands 2 and 3 with them. Assumes nothing.
 use Prim.Native.Nat.{ℕ, _≤_}
-use mathlib.Core.Path.{_≡_}
-use mathlib.Core.Bool.{Bool}
-use mathlib.Core.List.{List, [], _∷_}
+use mathlib.Core.Path.{_≡_, refl, sym, _∙_, ap}
+use mathlib.Core.Bool.{Bool, true}
+use mathlib.Core.List.{List, [], _∷_, _++_}
+use native.Mathlib.Omega.{arith}
 use Rattle.choice.specs.Pick.{pick}
-use Rattle.record.specs.Answers.{said}
+use Rattle.record.specs.Classes.{successful}
+use Rattle.record.specs.Classes.Class.{performed}
+use Rattle.record.specs.Answers.{Told, said, saidOf}
 use Rattle.record.specs.Fields.{top}
 use Rattle.record.specs.declared.Record.{Record}
+use Rattle.record.specs.declared.Opening.{Opening}
 use Rattle.step_begins.specs.Opening.{openStep}
-use Rattle.calls.specs.Calls.{step}
+use Rattle.step_stamps.specs.Stamping.{saysStamping}
+use Rattle.step_stamps.specs.declared.SaveStamp.{SaveStamp}
+use Rattle.step_stamps.specs.declared.Stamping.the-variants.{Taken}
+use Rattle.calls.specs.Calls.{Call, AnyCall, step}
 use Rattle.calls.specs.Calls.Call.{stamp, check}
+use Rattle.calls.specs.Calls.AnyCall.{opens, calls}
 use Rattle.calls.specs.Lending.{leavesOf, unopened}
 use Rattle.calls.specs.Lending.Lending.{openAt}
 use Rattle.noting.specs.Through.{leavesThrough}
-use Rattle.demand_chains.specs.Sending.{Sent, afterSent, heardSent}
-use Rattle.demand_steps.specs.Watching.{hears, Watch, watch, unwatched}
+use Rattle.demand_steps.specs.Watching.{Heard, hears, Watch, watch, unwatched}
+use Rattle.demand_chains.specs.Sending.{Sent, answeredAny, afterSent, heardSent}
 use Rattle.demand_chains.specs.Promises.{stampPasses}
 use Rattle.demand_chains.specs.DemandThree.{DemandThree}
-use Rattle.demand_logs.specs.Holding.{Held, Doing, afterHeld, heardHeld, sentHeld}
+use Rattle.demand_logs.specs.Holding.{Held, Doing, lends, does, hearing, tells, sending, sends, afterHeld, heardHeld, sentHeld}
+use Rattle.demand_logs.specs.Holding.Doing.{transacts, records, fills}
+use Rattle.demand_chains.proofs.SentCalls.{sent-transaction, sent-recorder}
 use Rattle.demand_chains.proofs.Stamps.{stamp-law}
-use Rattle.demand_chains.proofs.Theorems as T
-use Rattle.demand_logs.proofs.Holding.{held-after, held-heard}
+use Rattle.demand_chains.proofs.Theorems.{demands}
+use Rattle.demand_logs.proofs.HandedOn.{placed}
 
--- of any chain of calls as they are sent, from the record that an opening gave
-from : (sized : Bool) (v s l : ℕ) → v ≤ top → openStep sized v s l .number ≡ 0 → (r : Record) (ss : List Sent) → r ≡ openStep sized v s l .state →
-    DemandThree v (afterSent r ss) (watch unwatched (heardSent r ss))
-from sized v s l m o r ss e = rw e record {
-  revision-law = T.revision-law sized v s l m o ss;
-  commit-exactly = T.commit-exactly sized v s l m o ss;
-  recovery-exactly = T.recovery-exactly sized v s l m o ss;
-  never-locked = T.never-locked sized v s l m o ss;
-  progress = T.progress sized v s l m o ss;
-  finishes = T.finishes sized v s l m o ss;
-  until-recovery = T.until-recovery sized v s l m o ss;
-  recovery-back = T.recovery-back sized v s l m o ss;
-  recovery-early = T.recovery-early sized v s l m o ss;
+-- what was heard up to the record s, as a chain of calls that are sent
+record Follows (r s : Record) (heard : List Heard) (sent : List Sent) : Type 0 where
+  state : (ss : List Sent) → afterSent r (sent ++ ss) ≡ afterSent s ss
+  told : (ss : List Sent) → heardSent r (sent ++ ss) ≡ heard ++ heardSent s ss
+
+-- a call, which is no opening, that tells t, and is answered so where it is sent so
+follows : (r : Record) (t : Told) (c : AnyCall) {call : Call} → c ≡ calls call → (sized sound full : Bool) → t ≡ answeredAny sized sound full r c →
+    Follows r (t .state) (hearing c t) (sending c sized sound full)
+unfolding afterSent heardSent
+follows r t (opens given n) i sized sound full e = let z : _≡_ {A = ℕ} 0 1 = cc in absurd (omega arith)
+follows r t (calls c) i sized sound full e = record {
+  state = λ ss. ap (λ (u : Told). afterSent (u .state) ss) (sym e);
+  told = λ ss. ap (λ (u : Told). hears c u ∷ heardSent (u .state) ss) (sym e);
 }
+
+one : (h : Held) (d : Doing) → Follows (h .state) (does h d .state) (tells h d) (sends h d)
+one h (transacts g) =
+    follows _ (leavesOf (h .state) (lends h g) .told) _ (placed h g (h .state) (h .state) [] [] .called) _ _ _ (sent-transaction (h .state) (lends h g))
+one h (records g) =
+    follows _ (leavesThrough (h .state) (h .log) (lends h g) .told) _ (placed h g (h .state) (h .state) [] [] .called) _ _ _
+    (sent-recorder (h .state) (h .log) (lends h g))
+one h (fills x) = record { state = λ ss. refl; told = λ ss. refl }
+
+pub held-after : (h : Held) (ds : List Doing) → afterHeld h ds .state ≡ afterSent (h .state) (sentHeld h ds)
+unfolding afterHeld sentHeld afterSent
+held-after h [] = refl
+held-after h (d ∷ ds) = held-after (does h d) ds ∙ sym (one h d .state (sentHeld (does h d) ds))
+
+pub held-heard : (h : Held) (ds : List Doing) → heardHeld h ds ≡ heardSent (h .state) (sentHeld h ds)
+unfolding heardHeld sentHeld heardSent
+held-heard h [] = refl
+held-heard h (d ∷ ds) = ap (λ (hs : List Heard). tells h d ++ hs) (held-heard (does h d) ds) ∙ sym (one h d .told (sentHeld (does h d) ds))
 
 module _ (h : Held) (ds : List Doing) where
   abbrev now : Record
@@ -45,16 +74,21 @@ module _ (h : Held) (ds : List Doing) where
   seen = watch unwatched (heardHeld h ds)
 
   -- "a stamp taken in it passes exactly if nothing is staged, the domain is equal and no commit has succeeded since it was taken"
-  pub held-stamps : (d a v e : ℕ) → h .state .revision ≤ top → hears (stamp d) (step (h .state) (stamp d)) .answer ≡ said 0 (a ∷ v ∷ []) →
-      hears (check e a v) (step now (check e a v)) .answer ≡ said 0 (pick (stampPasses (seen .running) e d (seen .commits)) 1 0 ∷ [])
-  held-stamps d a v e m t = rw (held-after h ds, held-heard h ds) (stamp-law (h .state) d a v (sentHeld h ds) e m t)
+  pub held-stamps : (d : ℕ) (s : SaveStamp) (e : ℕ) → h .state .revision ≤ top → saidOf (step (h .state) (stamp d)) ≡ saysStamping (Taken s) →
+      saidOf (step now (check e s)) ≡ said performed (pick (stampPasses (seen .running) e d (seen .commits)) 1 0 ∷ [])
+  held-stamps d s e m t = rw (held-after h ds, held-heard h ds) (stamp-law (h .state) d s (sentHeld h ds) e m t)
 
   -- "In such a chain from an opening that is not refused": of the transaction, and of the recorder
-  module _ (v s : ℕ) (a p : List ℕ) (m : v ≤ top) where
-    pub held-demands : leavesOf unopened (openAt v s a p) .told .number ≡ 0 → h .state ≡ leavesOf unopened (openAt v s a p) .told .state → DemandThree v now seen
-    held-demands o e = rw (held-after h ds, held-heard h ds) (from _ v s _ m o (h .state) (sentHeld h ds) e)
+  module _ (given : Opening) (a p : List ℕ) (m : given .revision ≤ top) where
+    from : (sized : Bool) (l : ℕ) → successful (openStep sized given l .class) ≡ true → h .state ≡ openStep sized given l .state
+        → DemandThree (given .revision) now seen
+    from sized l o e = rw (held-after h ds, held-heard h ds) (rw (← e) at (demands sized given l m o (sentHeld h ds)))
 
-    pub held-demands-logged : (log : List ℕ) → leavesThrough unopened log (openAt v s a p) .told .number ≡ 0
-        → h .state ≡ leavesThrough unopened log (openAt v s a p) .told .state → DemandThree v now seen
+    pub held-demands : successful (leavesOf unopened (openAt given a p) .told .class) ≡ true → h .state ≡ leavesOf unopened (openAt given a p) .told .state
+        → DemandThree (given .revision) now seen
+    held-demands = from _ _
+
+    pub held-demands-logged : (log : List ℕ) → successful (leavesThrough unopened log (openAt given a p) .told .class) ≡ true
+        → h .state ≡ leavesThrough unopened log (openAt given a p) .told .state → DemandThree (given .revision) now seen
     unfolding leavesThrough
-    held-demands-logged log o e = rw (held-after h ds, held-heard h ds) (from _ v s _ m o (h .state) (sentHeld h ds) e)
+    held-demands-logged log = from _ _

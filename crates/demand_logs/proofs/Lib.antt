@@ -1,10 +1,5 @@
 pub mod LoggedSteps
 pub mod LoggedChains
-pub mod LoggedWhole
 pub mod LoggedOpening
-pub mod Ties
-pub mod LogFull
-pub mod Holding
-pub mod HeldTheorems
 pub mod HandedOn
-pub mod Framing
+pub mod HeldTheorems

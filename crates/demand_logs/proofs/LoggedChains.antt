@@ -1,13 +1,17 @@
 -- Chains through the recorder: with room enough a recorded chain has the records and the answers of the plain one, and the log is the
--- list of its written events in order. With room or without, the head stays sound. Assumes nothing.
+-- list of its written events in order. With room or without, a whole record stays whole and the head sound. Assumes nothing.
 use Prim.Native.Nat.{ℕ, _+_, _≤_}
 use mathlib.Core.Path.{_≡_, refl, sym, _∙_, ap}
 use mathlib.Core.Bool.{true}
 use mathlib.Core.List.{List, [], _∷_, _++_, append-nil, append-assoc}
 use lib.ListN.{length, length-append}
 use native.Mathlib.Omega.{arith}
-use Rattle.record.specs.Answers.{Told}
+use Rattle.record.specs.Answers.{Told, refuse}
+use Rattle.record.specs.Leaves.{Leaves}
+use Rattle.record.specs.Fields.{top}
 use Rattle.record.specs.declared.Record.{Record}
+use Rattle.record.specs.declared.Refusal.the-variants.{LogFull}
+use Rattle.wholeness.specs.Whole.{whole}
 use Rattle.log.specs.Log.{logSized, count, room, sound}
 use Rattle.events.specs.Entries.{Entry, entries, logOf}
 use Rattle.log.proofs.Room.{head-of}
@@ -16,18 +20,28 @@ use Rattle.calls.specs.Calls.{Call, step}
 use Rattle.demand_steps.specs.Watching.{Heard, hears}
 use Rattle.demand_chains.specs.Chains.{after, heard}
 use Rattle.demand_logs.specs.Logged.{loggedStep, logged, events}
-use Rattle.demand_logs.proofs.LoggedSteps.{Kept, eventOf, kept, step-sound, step-length}
+use Rattle.demand_logs.proofs.LoggedSteps.{Kept, Sound, eventOf, kept, step-sound, step-length, refuses, logged-kept}
+
+-- what every call keeps every chain keeps
+keeps : (P : Record → List ℕ → Type 0) → ((r : Record) (log : List ℕ) (c : Call) → P r log → P (loggedStep r log c .told .state) (logOf (loggedStep r log c)))
+    → (cs : List Call) (r : Record) (log : List ℕ) → P r log → P (logged r log cs .state) (logged r log cs .log)
+unfolding logged
+keeps P f [] r log p = p
+keeps P f (c ∷ cs) r log p = keeps P f cs _ _ (f r log c p)
 
 -- whatever the log and its room
 pub always-sound : (cs : List Call) (r : Record) (log : List ℕ) → sound log ≡ true → sound (logged r log cs .log) ≡ true
-unfolding logged
-always-sound [] r log s = s
-always-sound (c ∷ cs) r log s = always-sound cs _ _ (step-sound r log c s)
+always-sound = keeps (λ r l. sound l ≡ true) step-sound
 
 pub always-length : (cs : List Call) (r : Record) (log : List ℕ) → length (logged r log cs .log) ≡ length log
-unfolding logged
-always-length [] r log = refl
-always-length (c ∷ cs) r log = always-length cs _ _ ∙ step-length r log c
+always-length cs r log = keeps (λ q l. length l ≡ length log) (λ q l c e. step-length q l c ∙ e) cs r log refl
+
+pub logged-chain : (cs : List Call) (r : Record) (log : List ℕ) → logSized (length log) ≡ true → sound log ≡ true → whole r ≡ true → r .revision ≤ top →
+    (whole (logged r log cs .state) ≡ true) × (sound (logged r log cs .log) ≡ true)
+logged-chain cs r log h s w m =
+    let k = keeps (λ q l. (Sound q × (sound l ≡ true)) × (length l ≡ length log))
+    (λ q l c p. (logged-kept q l c (ap logSized (p .1) ∙ h) (p .0 .1) (p .0 .0), step-length q l c ∙ p .1)) cs r log (((w, m), s), refl) in
+    (k .0 .0 .0, k .0 .1)
 
 -- what a recorded chain comes to
 pub record Same (r : Record) (log : List ℕ) (cs : List Call) : Type 0 where
@@ -44,7 +58,18 @@ module _ (r : Record) (log : List ℕ) (c : Call) (cs : List Call) where
   abbrev rest : List Entry
   rest = events (step r c .state) cs
 
-  -- a call, and then the rest of the chain
+  -- a call that is answered 12, and the rest of the chain goes on as if it had not been made
+  pub chain-goes-on : loggedStep r log c .told .number ≡ 12
+      → (logged r log (c ∷ cs) .state ≡ logged r log cs .state) × (logged r log (c ∷ cs) .log ≡ logged r log cs .log)
+      × (logged r log (c ∷ cs) .heard ≡ hears c (refuse LogFull r) ∷ logged r log cs .heard)
+  unfolding logged
+  chain-goes-on e = let z = refuses r log c e in (
+    ap (λ (v : Leaves). logged (v .told .state) (logOf v) cs .state) z,
+    ap (λ (v : Leaves). logged (v .told .state) (logOf v) cs .log) z,
+    ap (λ (v : Leaves). hears c (v .told) ∷ logged (v .told .state) (logOf v) cs .heard) z,
+  )
+
+  -- a call that finds room, and then the rest of the chain
   onward : sound log ≡ true → Kept r log c (loggedStep r log c) → Same (step r c .state) next cs → Same r log (c ∷ cs)
   unfolding logged after heard events
   onward s k t = record {
@@ -68,12 +93,8 @@ module _ (r : Record) (log : List ℕ) (c : Call) (cs : List Call) where
   left : sound log ≡ true → Kept r log c (loggedStep r log c) → count log + length (eventOf r c) + length rest ≤ room log
       → count next + length rest ≤ room next
   left s k f =
-      let before = head-of log s in
-      let behind = head-of next (step-sound r log c s) in
       let n = sym (entries-length next) ∙ ap length (k .noting) ∙ length-append (entries log) (eventOf r c) in
-      let m = entries-length log in
-      let l = step-length r log c in
-      omega arith
+      omega (arith, head-of log s, head-of next (step-sound r log c s), entries-length log, step-length r log c)
 
 -- "with room enough": the log has the right size, its head is sound, and what is to be written fits
 pub same-chain : (cs : List Call) (r : Record) (log : List ℕ) → logSized (length log) ≡ true → sound log ≡ true

@@ -11,6 +11,7 @@ use Rattle.choice.proofs.Tests.{never, both}
 use Rattle.areas.specs.Areas.{sized, copied}
 use Rattle.record.specs.Classes.{refused}
 use Rattle.record.specs.Leaves.{Leaves, leaves}
+use Rattle.record.specs.declared.Opening.{Opening}
 use Rattle.step_begins.specs.Opening.{openStep}
 use Rattle.log.specs.Log.{logSized, count, room, roomOf, sound, blank}
 use Rattle.events.specs.Entries.{Entry, entries, logOf}
@@ -25,28 +26,28 @@ use Rattle.demand_logs.specs.Logged.{logged, events}
 use Rattle.demand_logs.proofs.LoggedChains.{Same, same-chain}
 
 -- "Refuses 6": what is not refused was of the right size
-opens : (fits : Bool) (v s n : ℕ) → refused (openStep fits v s n .class) ≡ false → fits ≡ true
-unfolding openStep pick _and_
-opens true v s n h = refl
-opens false v s n h = never h
+opens : (fits : Bool) (given : Opening) (n : ℕ) → refused (openStep fits given n .class) ≡ false → fits ≡ true
+unfolding openStep pick
+opens true given n h = refl
+opens false given n h = never h
 
-module _ (revision serial : ℕ) (log a payload : List ℕ) where
+module _ (given : Opening) (log a payload : List ℕ) where
   abbrev opened : Leaves
-  opened = leavesThrough unopened log (Lending.openAt revision serial a payload)
+  opened = leavesThrough unopened log (Lending.openAt given a payload)
 
   module _ (h : refused (opened .told .class) ≡ false) where
     fits : withLog (sized a) log .sized ≡ true
     unfolding leavesThrough kindOf writtenAs _and_ pick
-    fits = opens _ revision serial (length payload) h
+    fits = opens _ given (length payload) h
 
     log-sized : logSized (length log) ≡ true
     unfolding withLog
     log-sized = both fits .1
 
     -- the opening is the plain one
-    pub same-opening : opened .told ≡ leavesOf unopened (Lending.openAt revision serial a payload) .told
+    pub same-opening : opened .told ≡ leavesOf unopened (Lending.openAt given a payload) .told
     unfolding leavesThrough kindOf writtenAs withLog _and_ pick
-    same-opening = ap (λ (b : Bool). openStep b revision serial (length payload)) (fits ∙ sym (both fits .0))
+    same-opening = ap (λ (b : Bool). openStep b given (length payload)) (fits ∙ sym (both fits .0))
 
     -- "Opening writes the head from the length and zeroes the event words."
     cleared : logOf opened ≡ blank log

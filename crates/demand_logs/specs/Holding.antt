@@ -7,6 +7,7 @@ use lib.ListN.{getD, drop}
 use Rattle.record.specs.Answers.{Told}
 use Rattle.record.specs.declared.Record.{Record}
 use Rattle.record.specs.declared.Outcome.{Outcome}
+use Rattle.step_stamps.specs.declared.SaveStamp.{SaveStamp}
 use Rattle.log.specs.Log.{full}
 use Rattle.calls.specs.Calls.{Work, AnyCall}
 use Rattle.calls.specs.Calls.AnyCall.{opens, calls}
@@ -41,7 +42,7 @@ pub data Given : Bool → Type 0 where
   recoverRetained : {logged : Bool} → Given logged
   refresh : {logged : Bool} (length : ℕ) → Given logged
   stamp : (domain : ℕ) → Given false
-  check : (domain stampDomain stampRevision : ℕ) → Given false
+  check : (domain : ℕ) → SaveStamp → Given false
 
 -- the call with all that it is lent
 abbrev pub stores : Held → Payload → Stored
@@ -59,7 +60,7 @@ lends h (recover n) = Lending.recover (h .accepted) (h .exchange) n
 lends h recoverRetained = Lending.recoverRetained (h .accepted) (h .recovery) (h .exchange)
 lends h (refresh n) = Lending.refresh (h .accepted) (h .exchange) n
 lends h (stamp domain) = Lending.stamp domain
-lends h (check domain d v) = Lending.check domain d v
+lends h (check domain s) = Lending.check domain s
 
 -- a accepted, c candidate, o recovery, x exchange, t the table
 abbrev pub holding : Record → List ℕ → List ℕ → List ℕ → List ℕ → List ℕ → List ℕ → Held
@@ -81,7 +82,7 @@ keeps h (recover n) l = holding (h .state) (getD l 0 []) (h .candidate) (h .reco
 keeps h recoverRetained l = holding (h .state) (getD l 0 []) (h .candidate) (getD l 1 []) (getD l 2 []) (h .table) (h .log)
 keeps h (refresh n) l = holding (h .state) (getD l 0 []) (h .candidate) (h .recovery) (getD l 1 []) (h .table) (h .log)
 keeps h (stamp domain) l = h
-keeps h (check domain d v) l = h
+keeps h (check domain s) l = h
 
 -- and the record and the log
 abbrev pub after : Record → List ℕ → Held → Held
@@ -102,7 +103,7 @@ does h (fills x) = holding (h .state) (h .accepted) (h .candidate) (h .recovery)
 
 -- what is heard of it
 abbrev pub hearing : AnyCall → Told → List Heard
-hearing (opens revision serial accepted) t = []
+hearing (opens given accepted) t = []
 hearing (calls c) t = hears c t ∷ []
 
 abbrev pub tells : Held → Doing → List Heard
@@ -112,7 +113,7 @@ tells h (fills x) = []
 
 -- the call as it is sent: its sizes, and where it goes through the log, the log's head and room
 abbrev pub sending : AnyCall → Bool → Bool → Bool → List Sent
-sending (opens revision serial accepted) sized sound full = []
+sending (opens given accepted) sized sound full = []
 sending (calls c) sized sound full = record { call = c; sized = sized; sound = sound; full = full } ∷ []
 
 abbrev pub sends : Held → Doing → List Sent

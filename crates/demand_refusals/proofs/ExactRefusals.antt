@@ -7,7 +7,7 @@ use mathlib.Core.List.{[], _∷_}
 use lib.Dec.{eqb}
 use Rattle.choice.specs.Pick.{pick}
 use Rattle.choice.proofs.Tests.{never}
-use Rattle.record.specs.Classes.{refused}
+use Rattle.record.specs.Classes.{numberOf, refused}
 use Rattle.record.specs.Answers.{Said}
 use Rattle.record.specs.declared.Record.{Record}
 use Rattle.wholeness.specs.Whole.{whole}
@@ -39,6 +39,10 @@ module _ (sized sound : Bool) (r : Record) where
     -- the answer is one of document 01's list
     pub listed-answer : among (stepOf sized sound r c .number) (numbersOf c) ≡ true
     listed-answer = let s = spoken sized sound r c in one-listed (rows sized sound r c) (s .1) (s .0)
+
+    -- its number is that of its class
+    pub named-answer : stepOf sized sound r c .number ≡ numberOf (stepOf sized sound r c .class)
+    named-answer = spoken sized sound r c .0 .named
 
     -- a refusal returns the record that was given
     pub refusal-returns : refused (stepOf sized sound r c .class) ≡ true → stepOf sized sound r c .state ≡ returned r c

@@ -6,12 +6,13 @@ use mathlib.Core.Bool.{true}
 use mathlib.Core.List.{List}
 use lib.Dec.{eqb}
 use Rattle.choice.specs.Pick.{_and_, _or_}
-use Rattle.record.specs.Classes.{refused}
-use Rattle.status.specs.Status.{StatusCall, Marks, put, entryOf, marking, marksOf, allowed, next}
+use Rattle.record.specs.Classes.{numberOf, refused}
+use Rattle.status.specs.Status.{Marks, put, entryOf, marking, marksOf}
 use Rattle.status.specs.declared.Entry.{Entry}
+use Rattle.status.specs.declared.StatusCall.{StatusCall}
 use Rattle.demand_refusals.specs.Rows.{given, among, distinct, count}
 use Rattle.demand_refusals.specs.Marks.{statusRows, statusNumbers}
-use Rattle.demand_refusals.proofs.Rows.{View, Fits, row, last, row-else, again, around, under, over}
+use Rattle.demand_refusals.proofs.Rows.{View, Fits, row, last, around, under, over}
 use Rattle.demand_refusals.proofs.Rows.Leaf.{stays}
 use Rattle.demand_refusals.proofs.OneRow.{Listed, one-given, one-listed}
 
@@ -23,12 +24,11 @@ module _ (groups status : List ℕ) (id : ℕ) where
   unfolding statusRows entryOf marking put _and_
   fits-rows c =
       over F
-      (again _ _ _ _ (again _ _ _ _ (row _ (stays refl refl refl) (λ _.
-      again _ _ _ _ (around _ _ _ (stays refl refl refl)
-      (row-else _ (stays refl refl refl) (λ _. under F (row {v = leaving} _ (stays refl refl refl) (λ _. last refl refl refl)))))))))
+      (row _ (stays refl refl refl) (λ _. around _ _ _ (stays refl refl refl)
+      (row _ (stays refl refl refl) (λ _. under F (row {v = leaving} _ (stays refl refl refl) (λ _. last refl refl refl))))))
     where
       F : Entry → Marks
-      F e = marking e status (allowed c) (next c)
+      F = marking c status
 
   module _ (c : StatusCall) where
     all-listed : Listed (statusRows groups status id c) statusNumbers
@@ -43,6 +43,9 @@ module _ (groups status : List ℕ) (id : ℕ) where
 
     pub status-listed : among (marksOf groups status id c .said .number) statusNumbers ≡ true
     status-listed = one-listed (statusRows groups status id c) all-listed (fits-rows c)
+
+    pub status-named : marksOf groups status id c .said .number ≡ numberOf (marksOf groups status id c .said .class)
+    status-named = fits-rows c .named
 
     pub status-refusal : refused (marksOf groups status id c .said .class) ≡ true → marksOf groups status id c .status ≡ status
     status-refusal = fits-rows c .kept

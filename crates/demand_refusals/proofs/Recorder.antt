@@ -2,13 +2,13 @@
 -- else that answer; a refusal returns the record that was given and leaves all that was lent, but for the log entry of an ask answered 4
 -- or 5. Assumes nothing.
 use Prim.Native.Nat.{ℕ}
-use mathlib.Core.Path.{_≡_, refl, sym, _∙_, ap}
+use mathlib.Core.Path.{_≡_, refl, _∙_, ap}
 use mathlib.Core.Bool.{Bool, true, false}
 use mathlib.Core.List.{List, _∷_}
 use lib.Dec.{eqb}
 use Rattle.choice.specs.Pick.{pick, _or_}
 use Rattle.choice.proofs.Tests.{never, no-left}
-use Rattle.record.specs.Classes.{refused}
+use Rattle.record.specs.Classes.{numberOf, refused}
 use Rattle.record.specs.declared.Record.{Record}
 use Rattle.log.specs.Log.{full}
 use Rattle.calls.specs.Lending.{Lending, callOf, lent}
@@ -64,7 +64,11 @@ module _ (r : Record) (log : List ℕ) (c : Lending true) where
   pub recorder-one : count (givenThrough r log c) (numbersThrough c) ≡ 1
   unfolding numbersThrough
   recorder-one =
-      one-passes _ (givenThrough r log c) (numbersThrough c) recorder-exact (distinct-through _ (numbersOf (callOf c)) (spoken true true r (callOf c) .1 .1)) recorder-listed
+      one-passes _ (givenThrough r log c) (numbersThrough c) recorder-exact
+      (distinct-through _ (numbersOf (callOf c)) (spoken true true r (callOf c) .1 .1)) recorder-listed
+
+  pub recorder-named : leavesThrough r log c .told .number ≡ numberOf (leavesThrough r log c .told .class)
+  recorder-named = ends-as r log c .named
 
   pub recorder-refusal : refused (leavesThrough r log c .told .class) ≡ true
       → (leavesThrough r log c .told .state ≡ returned r (callOf c))

@@ -1,14 +1,15 @@
 -- The opening and every call on a record fit their rows: each answer is given exactly when its row says, and a refusal returns the
 -- record that was given; and the rows' numbers are those that are listed. Assumes nothing.
 use Prim.Native.Nat.{ℕ, _+_}
-use mathlib.Core.Path.{_≡_, refl, subst}
+use mathlib.Core.Path.{_≡_, refl, ap, subst}
 use mathlib.Core.Bool.{Bool, true, false, not}
 use mathlib.Core.List.{List, [], _∷_}
 use borrow.Author.Tests.{not-false}
 use Rattle.choice.specs.Pick.{pick, _and_, _or_}
 use Rattle.choice.proofs.Tests.{both}
 use Rattle.phases.specs.Phases.{hasSuccessor, successor, boundary}
-use Rattle.record.specs.Classes.{refusalNumber}
+use Rattle.record.specs.Classes.{refusalNumber, numberOf, refused}
+use Rattle.record.specs.Classes.Class.{performed}
 use Rattle.record.specs.Answers.{Told, told, answer, refuse}
 use Rattle.record.specs.Given.{effectOf}
 use Rattle.record.specs.declared.Record.{Record}
@@ -36,7 +37,7 @@ use Rattle.calls.specs.Calls.Call.{begin, ask, report, edit, commit, recover, r
 use Rattle.calls.specs.Calls.AnyCall.{opens, calls}
 use Rattle.calls.specs.Kinds.{kindOf, kindOfAny}
 use Rattle.demand_refusals.specs.Rows.{Row, _when_, among, distinct}
-use Rattle.demand_refusals.specs.Refusals.{returned, gateRows, reportRows, rows, numbersOf}
+use Rattle.demand_refusals.specs.Refusals.{returned, gateRows, doneRows, reportRows, rows, numbersOf}
 use Rattle.demand_refusals.proofs.Rows.{View, Fits, now, later, row, last, around, alike, over}
 use Rattle.demand_refusals.proofs.Rows.Leaf.{stays, goes}
 use Rattle.demand_refusals.proofs.OneRow.{Listed}
@@ -62,17 +63,20 @@ module _ (r : Record) where
   bars (b ∷ bs) f = refuses (b .why) (b .test) (bars bs f)
 
   -- the gate's refusals 6 and 7, before what an open gate gives
-  gate : {own : Told} {rest : List Row} (sized sound : Bool) → (whole r ≡ true → Tells own rest) → Tells (gated (gateOf sized sound r) r own) (gateRows sized sound r rest)
+  gate : {own : Told} {rest : List Row} (sized sound : Bool) → (whole r ≡ true → Tells own rest)
+      → Tells (gated (gateOf sized sound r) r own) (gateRows sized sound r rest)
   unfolding gateOf gated pick
   gate {own} {rest} sized sound f = by sized (sound and whole r) (λ e. f (both e .1))
     where
-      by : (a b : Bool) → (b ≡ true → Tells own rest) → Tells (gated (pick (not a) (Shut BadArea) (pick b Open (Shut Damaged))) r own) (6 when not a ∷ 7 when not b ∷ rest)
+      by : (a b : Bool) → (b ≡ true → Tells own rest)
+          → Tells (gated (pick (not a) (Shut BadArea) (pick b Open (Shut Damaged))) r own) (6 when not a ∷ 7 when not b ∷ rest)
       by false b g = now (stays refl refl refl)
       by true false g = later (now (stays refl refl refl))
       by true true g = later (later (g refl))
 
   -- a report by its outcome; Done's answer is at the last Finished, else More
-  outcomes : (x : Outcome) (end : Bool) (after a b : Record) → Tells (reported (effectOf x) after (pick end (answer Finished a) (answer More b))) (reportRows x end)
+  outcomes : (x : Outcome) (end : Bool) (after a b : Record)
+      → Tells (reported (effectOf x) after (pick end (answer Finished a) (answer More b))) (reportRows x end)
   unfolding reported
   outcomes O.Waiting end after a b = now (goes refl refl refl)
   outcomes (O.Failed code) end after a b = later (now (goes refl refl refl))
@@ -86,9 +90,15 @@ next-phase r h = simp h
 structure-outcomes : (r s : Record) (x : Outcome) → hasSuccessor (s .phase .number) ≡ true
     → Tells r (reported (effectOf x) s (structureDone s)) (reportRows x (boundary (s .phase .number + 1)))
 unfolding structureDone
-structure-outcomes r s x h = subst (λ (p : ℕ). Tells r (reported (effectOf x) s (structureDone s)) (reportRows x (boundary p))) (next-phase s h) (outcomes r x _ _ _ _)
+structure-outcomes r s x h =
+    subst (λ (p : ℕ). Tells r (reported (effectOf x) s (structureDone s)) (reportRows x (boundary p))) (next-phase s h) (outcomes r x _ _ _ _)
 
 module _ (sized sound : Bool) (r : Record) where
+  -- a call with a row of refusals of its own, which else is performed
+  performs : (bs : List Bar) (done : Told) → done .class ≡ performed → done .number ≡ 0
+      → Tells r (gated (gateOf sized sound r) r (barring bs r done)) (gateRows sized sound r (barRows bs doneRows))
+  performs bs done c e = gate r sized sound (λ _. bars r bs (last e (ap numberOf c) (ap refused c)))
+
   -- a call fits its rows, whose numbers are listed; a report is answered neither 4 nor 5
   abbrev Spoken : AnyCall → Type 0
   Spoken c =
@@ -99,13 +109,16 @@ module _ (sized sound : Bool) (r : Record) where
   pub spoken : (c : AnyCall) → Spoken c
   unfolding returned rows numbersOf among distinct kindOf _and_ _or_ openStep beginOwn askStructureOwn askUpdateOwn askRollbackOwn reportStructureOwn reportUpdateOwn reportRollbackOwn updateDone rollbackDone editOwn commitOwn unrestored recoverOwn recoverRetainedOwn refreshOwn stampStep checkStep
   spoken (opens given n) = (bars unopened (openBars sized n) (last refl refl refl), (refl, refl), refl)
-  spoken (calls (begin structural b)) = (gate r sized sound (λ _. bars r (beginBars r b) (last refl refl refl)), (refl, refl), refl)
+  spoken (calls (begin structural b)) = (performs (beginBars r b) _ refl refl, (refl, refl), refl)
   spoken (calls (ask structure)) =
       (gate r sized sound (λ _. refuses r NotReady _ (row _ (goes refl refl refl) (λ _. refuses r Worn _ (last refl refl refl)))), (refl, refl), refl)
   spoken (calls (ask update)) =
       (gate r sized sound (λ _. refuses r Recovering _ (row _ (goes refl refl refl) (λ _. refuses r Worn _ (last refl refl refl)))), (refl, refl), refl)
-  spoken (calls (ask rollback)) =
-      (gate r sized sound (λ _. around _ _ _ (goes refl refl refl) (refuses r Worn _ (row _ (goes refl refl refl) (λ _. last refl refl refl)))), (refl, refl), refl)
+  spoken (calls (ask rollback)) = (
+    gate r sized sound (λ _. around _ _ _ (goes refl refl refl) (refuses r Worn _ (row _ (goes refl refl refl) (λ _. last refl refl refl)))),
+    (refl, refl),
+    refl,
+  )
   spoken (calls (report (structured c o) t x)) = (
     gate r sized sound (λ w. row _ (stays refl refl refl) (λ e. bars r (longPayloads c o [])
         (structure-outcomes r _ x (live-structure _ t _ _ _ _ _ _ (parts w .live) (not-false _ e))))),
@@ -114,10 +127,12 @@ module _ (sized sound : Bool) (r : Record) where
   )
   spoken (calls (report updated t x)) = (gate r sized sound (λ _. bars r (reportUpdateBars r t) (outcomes r x _ _ _ _)), (refl, refl), refl)
   spoken (calls (report rolledBack t x)) = (gate r sized sound (λ _. bars r (reportRollbackBars r t) (outcomes r x _ _ _ _)), (refl, refl), refl)
-  spoken (calls (edit c o)) = (gate r sized sound (λ _. bars r (editBars r c o) (last refl refl refl)), (refl, refl), refl)
-  spoken (calls commit) = (gate r sized sound (λ _. bars r (commitBars r) (last refl refl refl)), (refl, refl), refl)
-  spoken (calls (recover n)) = (gate r sized sound (λ _. bars r (recoverBars r (longSnapshot n [])) (last refl refl refl)), (refl, refl), refl)
-  spoken (calls recoverRetained) = (gate r sized sound (λ _. bars r (recoverBars r []) (last refl refl refl)), (refl, refl), refl)
-  spoken (calls (refresh n)) = (gate r sized sound (λ _. bars r (refreshBars r n) (last refl refl refl)), (refl, refl), refl)
-  spoken (calls (stamp d)) = (over (λ s. told s r) (row _ (stays refl refl refl) (λ _. row _ (stays refl refl refl) (λ _. last refl refl refl))), (refl, refl), refl)
-  spoken (calls (check d s)) = (over (λ s. told s r) (row _ (stays refl refl refl) (λ _. alike _ (last refl refl refl) (last refl refl refl))), (refl, refl), refl)
+  spoken (calls (edit c o)) = (performs (editBars r c o) _ refl refl, (refl, refl), refl)
+  spoken (calls commit) = (performs (commitBars r) _ refl refl, (refl, refl), refl)
+  spoken (calls (recover n)) = (performs (recoverBars r (longSnapshot n [])) _ refl refl, (refl, refl), refl)
+  spoken (calls recoverRetained) = (performs (recoverBars r []) _ refl refl, (refl, refl), refl)
+  spoken (calls (refresh n)) = (performs (refreshBars r n) _ refl refl, (refl, refl), refl)
+  spoken (calls (stamp d)) =
+      (over (λ s. told s r) (row _ (stays refl refl refl) (λ _. row _ (stays refl refl refl) (λ _. last refl refl refl))), (refl, refl), refl)
+  spoken (calls (check d s)) =
+      (over (λ s. told s r) (row _ (stays refl refl refl) (λ _. alike _ (last refl refl refl) (last refl refl refl))), (refl, refl), refl)

@@ -50,21 +50,9 @@ module _ {A : Type 0} {v : View A} where
   row true l f = now l
   row false l f = later (f refl)
 
-  -- its opposite does
-  pub row-else : {x y : A} {k : ℕ} {rest : List Row} (b : Bool) → Leaf v y k → (b ≡ true → Fits v x rest) → Fits v (pick b x y) (k when not b ∷ rest)
-  unfolding pick
-  row-else true l f = later (f refl)
-  row-else false l f = now l
-
   -- the last row
   pub last : {x : A} {k : ℕ} → v .number x ≡ k → numberOf (v .class x) ≡ k → refused (v .class x) ≡ false → Fits v x (k when otherwise ∷ [])
   last e c f = now (goes e c f)
-
-  -- the same answer is given again by the next test
-  pub again : {rows : List Row} (a b : Bool) (x y : A) → Fits v (pick (a or b) x y) rows → Fits v (pick a x (pick b x y)) rows
-  unfolding pick _or_
-  again true b x y f = f
-  again false b x y f = f
 
   -- a number is given again by the test after the next
   pub around : {x y : A} {k m : ℕ} {rest : List Row} (a b c : Bool) → Leaf v x k → Fits v y (m when b ∷ k when c ∷ rest)

@@ -19,5 +19,6 @@ module _ (r : Record) (c : Lending false) where
   pub transaction-listed : among (leavesOf r c .told .number) (numbersOf (callOf c)) ≡ true
   transaction-listed = listed-answer (fits c) true r (callOf c)
 
-  pub transaction-refusal : refused (leavesOf r c .told .class) ≡ true → (leavesOf r c .told .state ≡ returned r (callOf c)) × (leavesOf r c .lent ≡ lent c)
+  pub transaction-refusal : refused (leavesOf r c .told .class) ≡ true
+      → (leavesOf r c .told .state ≡ returned r (callOf c)) × (leavesOf r c .lent ≡ lent c)
   transaction-refusal h = (refusal-returns (fits c) true r (callOf c) h, sym (yes (moved r c) h refl))

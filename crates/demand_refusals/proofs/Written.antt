@@ -50,7 +50,8 @@ unfolding _or_
 no-ask k e = ap asks (eqb-true k noKind e)
 
 -- a number that is listed is neither of two that are not, where the test r holds
-neither-of : (n a b : ℕ) (ns : List ℕ) (r : Bool) → among n ns ≡ true → (among a ns or among b ns) and r ≡ false → r ≡ true → eqb n a or eqb n b ≡ false
+neither-of : (n a b : ℕ) (ns : List ℕ) (r : Bool) → among n ns ≡ true → (among a ns or among b ns) and r ≡ false → r ≡ true
+    → eqb n a or eqb n b ≡ false
 unfolding _and_ _or_
 neither-of n a b ns r l q h =
     let p = neither (and-true _ ∙ rw h at q) in

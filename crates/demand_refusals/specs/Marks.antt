@@ -1,23 +1,19 @@
 -- Document 01, "Status": the numbers that the status calls answer, each with its test. Assumes nothing.
 use Prim.Native.Nat.{ℕ}
-use mathlib.Core.Bool.{Bool, not}
+use mathlib.Core.Bool.{not}
 use mathlib.Core.List.{List, [], _∷_}
-use lib.Dec.{eqb, leb, ltb}
-use lib.ListN.{length, getD}
+use lib.ListN.{getD}
 use Rattle.choice.specs.Pick.{_and_, _or_}
-use Rattle.status.specs.Status.{StatusCall, allowed, bytesSound}
+use Rattle.status.specs.Status.{otherLengths, outside, bytesSound, allowed}
+use Rattle.status.specs.declared.StatusCall.{StatusCall}
 use Rattle.demand_refusals.specs.Rows.{Row, _when_, otherwise}
-
--- "Ids 0 or past the end"
-abbrev pub outside : List ℕ → ℕ → Bool
-outside status id = ltb id 1 or leb (length status) id
 
 -- "equal lengths 1 to 256 ..; other lengths give 6. Ids 0 or past the end then give 13, before any byte is read. A group byte over 7, a
 -- status byte over 15, or a nonzero status byte without 1, gives 7 for that id." 13 stands before 7 and after it, so 7 comes first, with
 -- the id in its test
 unfoldable pub statusRows : List ℕ → List ℕ → ℕ → StatusCall → List Row
 statusRows groups status id c =
-    6 when (not (eqb (length groups) (length status)) or ltb (length status) 1 or ltb 256 (length status))
+    6 when otherLengths groups status
     ∷ 7 when (not (outside status id) and not (bytesSound (getD groups id 0) (getD status id 0)))
     ∷ 13 when (outside status id or not (allowed c (getD groups id 0) (getD status id 0)))
     ∷ 0 when otherwise

@@ -32,7 +32,7 @@ use Rattle.demand_steps.specs.Watching.{sees}
 use Rattle.demand_steps.specs.Watching as Watching
 use Rattle.demand_steps.proofs.Own.{own, row, answers}
 use Rattle.demand_steps.proofs.Unseen.{Unseen, unseen}
-use Rattle.demand_steps.proofs.Leaf.{Apart, Updates, Goes, Left, Leaf}
+use Rattle.demand_steps.proofs.Leaf.{Apart, Updates, Left, Leaf}
 use Rattle.demand_steps.proofs.Leaf.Goes.{last, more}
 use Rattle.demand_steps.proofs.Leaf.Leaf.{kept, began, structureAsked, updateEnded, updateAsked, rollbackEnded, turnedEmpty, turnedAsked, waited, went, updateTaken, undoTaken, committed, recovered, restored}
 
@@ -60,7 +60,7 @@ module _ (r : Record) where
   stores : (c o : ℕ) → long c or long o ≡ false → Left r (r .accepted) c o
   stores c o h l = let s = neither h in record { accepted = l .accepted; candidate = short c (s .0); recovery = short o (s .1) }
 
-  refuses : {c : Call} (why : Refusal) → Leaf r c (refuse why r)
+  pub refuses : {c : Call} (why : Refusal) → Leaf r c (refuse why r)
   refuses {c} why = kept (unseen c why) (λ l. l)
 
   barred : {c : Call} (bs : List Bar) {done : Told} → (Clear bs → Leaf r c done) → Leaf r c (barring bs r done)
@@ -77,7 +77,7 @@ module _ (r : Record) where
   outcomes f l (O.Failed code) = waited (λ w. refl) f
   outcomes f l O.Done = l
 
-  classify : (c : Call) → Leaf r c (own r c)
+  pub classify : (c : Call) → Leaf r c (own r c)
   unfolding own beginOwn editOwn askStructureOwn askUpdateOwn askRollbackOwn reportStructureOwn reportUpdateOwn reportRollbackOwn commitOwn recoverOwn recoverRetainedOwn refreshOwn structureDone updateDone rollbackDone adopting leaving sees
   classify (begin structural b) = barred (beginBars r b) (λ x. began (x .0) (eqb-ne _ _ (x .1 .0)) (stores _ _ (x .1 .1 .0)) (ltb-false _ _ (x .1 .1 .1 .0)))
   classify (ask structure) =
@@ -109,7 +109,7 @@ module _ (r : Record) where
 
   -- on any record, whatever it is lent: one that is not whole is refused
   pub lent-leaf : (sized sound : Bool) (c : Call) → Leaf r c (stepWith sized sound r c)
-  lent-leaf sized sound c = answers (Leaf r c) r refuses sized sound c (classify c)
+  lent-leaf sized sound c = answers (Leaf r c) r refuses sized sound c (λ w. classify c)
 
   pub leaf : (c : Call) → Leaf r c (step r c)
   leaf c = lent-leaf true true c

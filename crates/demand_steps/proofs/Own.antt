@@ -14,7 +14,7 @@ use Rattle.wholeness.specs.Whole.{whole}
 use Rattle.wholeness.specs.Gates.{gateOf, gated, Bar, barring}
 use Rattle.wholeness.specs.declared.Gate.{Gate}
 use Rattle.wholeness.specs.declared.Gate.the-variants.{Open, Shut}
-use Rattle.wholeness.proofs.Passing.{Clear}
+use Rattle.wholeness.proofs.Passing.{passed, Clear}
 use Rattle.step_begins.specs.Beginning.{beginOwn, editOwn}
 use Rattle.step_asks.specs.Asks.{askStructureOwn, askUpdateOwn, askRollbackOwn}
 use Rattle.step_reports.specs.Reports.{reportStructureOwn, reportUpdateOwn, reportRollbackOwn}
@@ -92,15 +92,15 @@ module _ (P : Told → Type 0) (r : Record) (refuses : (why : Refusal) → P (re
   row [] f = f refl
   row (b ∷ bs) f = picked P (b .test) (λ e. refuses (b .why)) (λ e. row bs (λ x. f (e, x)))
 
-  at-gate : {done : Told} (g : Gate) → P done → P (gated g r done)
+  at-gate : {done : Told} (g : Gate) → (g ≡ Open → P done) → P (gated g r done)
   unfolding gated
-  at-gate Open p = p
-  at-gate (Shut why) p = refuses why
+  at-gate Open f = f refl
+  at-gate (Shut why) f = refuses why
 
   -- a call, whatever it is lent
-  by-gate : {sized sound : Bool} {c : Call} → Behind sized sound r c → P (own r c) → P (stepWith sized sound r c)
-  by-gate (lent e) p = subst P (sym e) (at-gate _ p)
-  by-gate (unlent e) p = subst P (sym e) (at-gate _ p)
+  by-gate : {sized sound : Bool} {c : Call} → Behind sized sound r c → (whole r ≡ true → P (own r c)) → P (stepWith sized sound r c)
+  by-gate (lent e) f = subst P (sym e) (at-gate _ (λ h. f (passed _ _ r refl h .is-whole)))
+  by-gate (unlent e) f = subst P (sym e) (at-gate _ (λ h. f (passed _ _ r refl h .is-whole)))
 
-  pub answers : (sized sound : Bool) (c : Call) → P (own r c) → P (stepWith sized sound r c)
+  pub answers : (sized sound : Bool) (c : Call) → (whole r ≡ true → P (own r c)) → P (stepWith sized sound r c)
   answers sized sound c = by-gate (behind r sized sound c)

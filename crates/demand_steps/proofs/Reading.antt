@@ -15,7 +15,7 @@ use Rattle.record.specs.declared.Live.{Live}
 use Rattle.record.specs.declared.Live.the-variants.{None, Structure, Update, Rollback}
 use Rattle.wholeness.specs.Whole.{whole, lengthsFit, stagedFits, forwardFits, backFits, restoringFits, liveFits}
 use Rattle.wholeness.proofs.Facts.{Parts, parts, Counts, counts-of}
-use Rattle.demand_steps.proofs.Leaf.{Apart, Updates, Lengths}
+use Rattle.demand_steps.proofs.Leaf.{Apart, Lengths}
 use Rattle.demand_steps.proofs.Classify.{updates-of}
 use Rattle.demand_steps.proofs.Facts.{Ahead, Behind, Turned, Stage, Tick, Calm, Whole, tests, byCase}
 use Rattle.demand_steps.proofs.Facts.Stage.{flat, flatBack, before, updating, after, undoing, backing}

@@ -26,7 +26,7 @@ Opens to x = successful (x .class) ≡ true → x .state ≡ to
 module _ (r : Record) where
   ends : {to : Record} (c : Call) (bs : List Bar) (done : Told) → own r c ≡ barring bs r done → done .state ≡ to → Opens to (step r c)
   ends {to} c bs done e p =
-      answers (Opens to) r (λ why h. never (sym h)) true true c (subst (Opens to) (sym e) (row (Opens to) r (λ why h. never (sym h)) bs (λ x h. p)))
+      answers (Opens to) r (λ why h. never (sym h)) true true c (λ w. subst (Opens to) (sym e) (row (Opens to) r (λ why h. never (sym h)) bs (λ x h. p)))
 
   pub commit-opens : successful (step r commit .class) ≡ true → step r commit .state ≡ opening (at (r .revision + 1) (r .serial)) (r .candidate)
   unfolding own commitOwn

@@ -1,10 +1,16 @@
 // The configuration transaction: every call of document 01, in one place. A call first finds its answer and its next record
 // from sizes alone, by a step of `step_begins`, `step_asks`, `step_reports`, `step_ends` or `step_stamps`; only where that is no refusal are
 // bytes moved. The steps are questions that the transaction answers under its own name, as `would_commit`: what a call would
-// answer on what it is lent, asked by those who build above before anything moves. `AREA` and `TABLE` are the sizes of what is lent.
+// answer on what it is lent, asked by those who build above before anything moves. `begin_as` is either begin, by its flag. `AREA`
+// and `TABLE` are the sizes of what is lent, which `is_area`, `is_table` and `are_pairs` ask, and `ACTIONS` the most actions.
 pub use areas::SIZE as AREA;
+pub use areas::is_sized as is_area;
+pub use batch::LIMIT as ACTIONS;
 pub use batch::WORDS as TABLE;
+pub use batch::are_pairs;
+pub use batch::is_sized as is_table;
 pub use call_begins::begin;
+pub use call_begins::begin_as;
 pub use call_begins::begin_structural;
 pub use call_begins::edit;
 pub use call_begins::open;
@@ -44,33 +50,21 @@ ghost use Rattle.calls.specs.Lending.Lending.{ask, stamp, check};
 pub fn ask_structure(r: Record) -> Stepped
     ensures { λ s. ⌜ tells s ≡ leavesOf r (ask structure) .told ⌝ }
 {
-    let found = Findings {
-        sized: true,
-        sound: true,
-    };
-    step_asks::ask_structure(r, found)
+    step_asks::ask_structure(r, Findings::of(true))
 }
 
 // A ticket for the next action.
 pub fn ask_update(r: Record) -> Stepped
     ensures { λ s. ⌜ tells s ≡ leavesOf r (ask update) .told ⌝ }
 {
-    let found = Findings {
-        sized: true,
-        sound: true,
-    };
-    step_asks::ask_update(r, found)
+    step_asks::ask_update(r, Findings::of(true))
 }
 
 // A ticket to undo the last action that was attempted.
 pub fn ask_rollback(r: Record) -> Stepped
     ensures { λ s. ⌜ tells s ≡ leavesOf r (ask rollback) .told ⌝ }
 {
-    let found = Findings {
-        sized: true,
-        sound: true,
-    };
-    step_asks::ask_rollback(r, found)
+    step_asks::ask_rollback(r, Findings::of(true))
 }
 
 // A stamp of the accepted settings, for a domain.
@@ -82,7 +76,7 @@ pub fn stamp(r: Record, domain: u64) -> Stamping
 
 // Whether a stamp still passes.
 pub fn check(r: Record, domain: u64, given: SaveStamp) -> Checked
-    ensures { λ c. ⌜ told (saysChecked c) r ≡ leavesOf r (check domain (given .domain) (given .revision)) .told ⌝ }
+    ensures { λ c. ⌜ told (saysChecked c) r ≡ leavesOf r (check domain given) .told ⌝ }
 {
     step_stamps::check(r, domain, given)
 }

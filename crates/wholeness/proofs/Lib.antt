@@ -1,3 +1,2 @@
 pub mod Passing
 pub mod Facts
-pub mod Moves

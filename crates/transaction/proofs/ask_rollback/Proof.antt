@@ -4,7 +4,7 @@ use Rattle.transaction.proofs.ask_rollback.Statement.{statement}
 use Rattle.transaction.proofs.ask_rollback.Tie as tie
 
 returns : tie.Need-returns
-returns c = c .ask-rollback .ensures
+returns c = rw (c .before .of .ensures) at (c .ask-rollback .ensures)
 
 pub ask-rollback-spec : {M : Type 1} → statement M
-ask-rollback-spec = tie.close (tie.spec (search needs) returns)
+ask-rollback-spec = tie.close (tie.spec (search needs) (search needs) returns)

@@ -4,7 +4,7 @@ use Rattle.transaction.proofs.ask_structure.Statement.{statement}
 use Rattle.transaction.proofs.ask_structure.Tie as tie
 
 returns : tie.Need-returns
-returns c = c .ask-structure .ensures
+returns c = rw (c .before .of .ensures) at (c .ask-structure .ensures)
 
 pub ask-structure-spec : {M : Type 1} → statement M
-ask-structure-spec = tie.close (tie.spec (search needs) returns)
+ask-structure-spec = tie.close (tie.spec (search needs) (search needs) returns)

@@ -4,7 +4,7 @@ use Rattle.transaction.proofs.ask_update.Statement.{statement}
 use Rattle.transaction.proofs.ask_update.Tie as tie
 
 returns : tie.Need-returns
-returns c = c .ask-update .ensures
+returns c = rw (c .before .of .ensures) at (c .ask-update .ensures)
 
 pub ask-update-spec : {M : Type 1} → statement M
-ask-update-spec = tie.close (tie.spec (search needs) returns)
+ask-update-spec = tie.close (tie.spec (search needs) (search needs) returns)

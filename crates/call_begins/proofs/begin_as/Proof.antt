@@ -1,0 +1,17 @@
+-- `call_begins::begin_as` meets its contract: the step goes by the sizes of all that is lent, and the payloads and the pairs are moved in turn. Assumes nothing.
+use Rattle.moves.proofs.Laws.{in-turn}
+use Rattle.moves.proofs.Sizes.{by-all}
+use borrow.Author.Needs.{needs}
+use Rattle.call_begins.proofs.begin_as.Statement.{statement}
+use Rattle.call_begins.proofs.begin_as.Tie as tie
+
+returns : tie.Need-returns
+returns c =
+    let k = c .before .before .before .before .before .before .before .before in
+    let s = k .before .before .before in
+    let z = s .before .before in
+    by-all _ _ _ _ _ _ _ _ (in-turn _ _ _ _ (k .payloads .ensures) (c .before .before .pairs .ensures)) (s .begin .ensures) (s .before .of .ensures)
+    (z .before .before .before .is-sized .ensures) (z .before .before .is-sized2 .ensures) (z .before .is-sized3 .ensures) (z .are-pairs .ensures)
+
+pub begin-as-spec : {M : Type 1} → statement M
+begin-as-spec = tie.close (tie.spec (search needs) (search needs) (search needs) (search needs) (search needs) (search needs) (search needs) (search needs) (search needs) (search needs) (search needs) returns)

@@ -1,0 +1,8 @@
+-- `moves::exchange` meets its contract. Assumes nothing.
+use borrow.Author.Needs.{needs}
+use Rattle.moves.proofs.Laws.{ends}
+use Rattle.moves.proofs.exchange.Statement.{statement}
+use Rattle.moves.proofs.exchange.Tie as tie
+
+pub exchange-spec : {M : Type 1} → statement M
+exchange-spec = tie.close (tie.spec (search needs) (λ c. search ends) (search needs) (search needs) (search needs) (λ c. search ends))

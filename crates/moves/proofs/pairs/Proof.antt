@@ -1,0 +1,8 @@
+-- `moves::pairs` meets its contract. Assumes nothing.
+use borrow.Author.Needs.{needs}
+use Rattle.moves.proofs.Laws.{ends}
+use Rattle.moves.proofs.pairs.Statement.{statement}
+use Rattle.moves.proofs.pairs.Tie as tie
+
+pub pairs-spec : {M : Type 1} → statement M
+pairs-spec = tie.close (tie.spec (search needs) (λ c. search ends) (search needs) (search needs) (λ c. search ends))

@@ -1,0 +1,8 @@
+-- `moves::replace` meets its contract. Assumes nothing.
+use borrow.Author.Needs.{needs}
+use Rattle.moves.proofs.Laws.{ends}
+use Rattle.moves.proofs.replace.Statement.{statement}
+use Rattle.moves.proofs.replace.Tie as tie
+
+pub replace-spec : {M : Type 1} → statement M
+replace-spec = tie.close (tie.spec (search needs) (λ c. search ends) (search needs) (search needs) (search needs) (search needs) (λ c. search ends))
