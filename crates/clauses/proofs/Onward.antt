@@ -16,7 +16,6 @@ use Rattle.demand_steps.proofs.{Leaf.Apart, Facts.Calm, Facts.Calm.on, Facts.Ca
 use Rattle.demand_steps.proofs.{Wholeness.left, Wholeness.successor-test, Tickets.onStructure, Moves.goes-up, Moves.goes-down}
 use Rattle.clauses.specs.Structure.{Stepping, Advances}
 use Rattle.clauses.proofs.Splitting.{nope}
-
 use Rattle.demand_steps.proofs.Moves.{goes-up, goes-down}
 use Rattle.clauses.specs.Structure.{Stepping, Advances}
 use Rattle.clauses.proofs.Splitting.{nope}

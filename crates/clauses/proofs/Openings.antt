@@ -27,7 +27,7 @@ opening-whole given l m h = whole-test (idles (given .revision) l (opening given
 
 module _ (given : Opening) (m : given .revision ≤ top) where
   module _ (sizes : Bool) (l : ℕ) where
-    opened : Decided unopened (λ c. refused c ≡ true) (answer (Done Nothing) (opening given l)) (openBars sizes l) (openStep sizes given l)
+    pub opened : Decided unopened (λ c. refused c ≡ true) (answer (Done Nothing) (opening given l)) (openBars sizes l) (openStep sizes given l)
     unfolding openStep
     opened = decide (openBars sizes l) (λ e. refl, λ e₁. (λ e. refl, λ e₂. refl))
 

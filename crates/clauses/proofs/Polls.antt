@@ -6,8 +6,7 @@ use lib.Dec.{eqb}
 use borrow.Author.Tests.{ne-eqb, leb-true, not-true, not-false}
 use Rattle.choice.specs.Pick.{_or_}
 use Rattle.choice.proofs.Tests.{never, either, neither, join, no-left, no-right, tests}
-use Rattle.record.specs.{Classes.taken, Classes.Class.stepping, Classes.StepAnswer.finished, Answers.Told, Fields.top, Fields.spent, Fields.adopting, Live.isLive}
-use Rattle.record.specs.Live as Tickets
+use Rattle.record.specs.{Classes.taken, Classes.Class.stepping, Classes.StepAnswer.finished, Answers.Told, Fields.top, Fields.adopting}
 use Rattle.record.specs.declared.{Record.Record, Outcome.Outcome}
 use Rattle.wholeness.specs.Whole.{whole, complete}
 use Rattle.step_asks.specs.Asks.{askUpdateOwn, turned, askRollbackOwn}

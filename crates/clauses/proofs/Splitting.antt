@@ -16,9 +16,7 @@ use Rattle.wholeness.proofs.Passing.{Clear}
 use Rattle.step_reports.specs.Reports.{reported}
 use Rattle.calls.specs.Calls.{Call, step}
 use Rattle.demand_steps.proofs.{Own.own, Own.whole-step, Facts.Whole, Classify.leaf, Preserve.preserve, Reading.whole-facts, Wholeness.whole-test}
-
-pub clash : (b : Bool) {P : Type 0} → b ≡ true → b ≡ false → P
-clash b p q = never (sym p ∙ q)
+pub use Rattle.demand_chains.proofs.Granting.{clash}
 
 -- a test that does not hold
 pub nope : {P : Type 0} → false ≡ true → P

@@ -1,8 +1,8 @@
 -- `poll_structure`, clause by clause: of the asking and of the report. Assumes nothing.
 use Prim.Native.Nat.{ℕ, _≤_}
-use mathlib.Core.{Path._≡_, Path.refl, Path.sym, Path.ap, Bool.true, Bool.false, Logic._≢_}
+use mathlib.Core.{Path._≡_, Path.refl, Path.ap, Bool.true, Bool.false, Logic._≢_}
 use borrow.Author.Tests.{not-false}
-use Rattle.choice.proofs.Tests.{test, never}
+use Rattle.choice.proofs.Tests.{test}
 use Rattle.phases.specs.{Phases.hasSuccessor, Phases.boundary, declared.Phase.Phase}
 use Rattle.record.specs.Classes.{Class, refused, Class.refusal, StepAnswer.finished}
 use Rattle.record.specs.{Answers.Told, Fields.top, Live.isLive}
@@ -16,7 +16,7 @@ use Rattle.demand_steps.proofs.{Own.own, Reading.whole-facts, Reading.apart-of,
 use Rattle.clauses.specs.Keeping.{SameBatch, Framed}
 use Rattle.clauses.specs.Polls.{unfinished}
 use Rattle.clauses.specs.Structure.{StructureClauses, Advances}
-use Rattle.clauses.proofs.Splitting.{clash, nope, differ, unended, by, outcomes, on-step}
+use Rattle.clauses.proofs.Splitting.{clash, differ, unended, by, outcomes, on-step}
 use Rattle.clauses.proofs.Onward.{calm-staged, no-successor, at-boundary, has-one, succeeds, onwards, stepping-on}
 
 -- not the refusal 4
