@@ -6,16 +6,16 @@ use native.Mathlib.Omega.{arith}
 use borrow.Author.Tests.{lt-ltb, le-ltb, not-true}
 use Rattle.choice.specs.Pick.{pick}
 use Rattle.choice.proofs.Tests.{both, either}
-use Rattle.record.specs.{Classes.successful, Classes.Class.performed, Fields.top}
-use Rattle.record.specs.declared.{Record.Record, Opening.Opening}
+use Rattle.record.specs.{Classes.successful, Classes.Class.performed, Fields.top, declared.Record.Record, declared.Opening.Opening}
 use Rattle.wholeness.specs.Whole.{complete}
 use Rattle.step_begins.specs.Opening.{openStep}
-use Rattle.calls.specs.Calls.{step, Call.commit, Call.recover}
+use Rattle.calls.specs.{Calls.step, Calls.Call.commit, Calls.Call.recover}
 use Rattle.demand_steps.specs.Watching.{Item, Watch, watch, unwatched}
-use Rattle.demand_steps.proofs.Facts.{Stage, Stage.flat, Stage.flatBack, Stage.before, Stage.updating, Stage.after, Stage.undoing, Stage.backing, tests, byCase}
-use Rattle.demand_steps.proofs.{Testing.ranges, Calming.range, Wholeness.whole-test}
+use Rattle.demand_steps.proofs.{Facts.Stage, Facts.Stage.flat, Facts.Stage.flatBack, Facts.Stage.before, Facts.Stage.updating, Facts.Stage.after, Facts.Stage.undoing}
+use Rattle.demand_steps.proofs.{Facts.Stage.backing, Facts.tests, Facts.byCase, Testing.ranges, Calming.range, Wholeness.whole-test}
 use Rattle.demand_chains.specs.{Sending.Sent, Sending.afterSent, Sending.heardSent, Plans.planAt, Plans.backAt, Plans.firsts}
-use Rattle.demand_chains.proofs.{Course.Kind, Course.Kind.updateOnly, Course.Kind.structural, Course.Course, Course.Course.ahead, Course.Course.behind, Chain.Good, Theorems.good}
+use Rattle.demand_chains.proofs.{Course.Kind, Course.Kind.updateOnly, Course.Kind.structural, Course.Course, Course.Course.ahead, Course.Course.behind, Chain.Good}
+use Rattle.demand_chains.proofs.{Theorems.good}
 use Rattle.clauses.specs.{Successes.isUpdate, Successes.successes, Chains.Undone, Ending.CanRecover}
 use Rattle.clauses.proofs.Endings.{commit-clauses, recover-clauses}
 

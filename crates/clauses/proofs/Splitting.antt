@@ -7,9 +7,9 @@ use borrow.Author.Tests.{le-ltb}
 use Rattle.choice.specs.Pick.{pick, _or_}
 use Rattle.choice.proofs.{Picks.picked, Tests.never, Tests.neither, Tests.eqb-ne, Tests.tests}
 use Rattle.areas.specs.Areas.{areaSize, long}
-use Rattle.record.specs.Classes.{Class, StepAnswer, numberOf, refused, takes, taken, Class.performed, Class.refusal, Class.stepping, StepAnswer.finished}
-use Rattle.record.specs.{Answers.Told, Answers.told, Answers.said, Answers.refuse, Given.effectOf, Fields.top}
-use Rattle.record.specs.declared.{Record.Record, Outcome.Outcome, Refusal.Refusal}
+use Rattle.record.specs.{Classes.Class, Classes.StepAnswer, Classes.numberOf, Classes.refused, Classes.takes, Classes.taken, Classes.Class.performed}
+use Rattle.record.specs.{Classes.Class.refusal, Classes.Class.stepping, Classes.StepAnswer.finished, Answers.Told, Answers.told, Answers.said, Answers.refuse}
+use Rattle.record.specs.{Given.effectOf, Fields.top, declared.Record.Record, declared.Outcome.Outcome, declared.Refusal.Refusal}
 use Rattle.record.specs.declared.Outcome.the-variants as O
 use Rattle.wholeness.specs.{Whole.whole, Gates.Bar, Gates.barring}
 use Rattle.wholeness.proofs.Passing.{Clear}

@@ -6,19 +6,20 @@ use native.Mathlib.Omega.{arith}
 use lib.ListN.{take}
 use Rattle.choice.specs.Pick.{pick}
 use Rattle.phases.specs.Phases.{remove, adopt, recoverRemove}
-use Rattle.record.specs.{Classes.successful, Answers.Told, Answers.saidOf, Fields.top, Fields.spent, Fields.adopting}
+use Rattle.record.specs.{Classes.successful, Answers.Told, Answers.saidOf, Fields.top, Fields.spent, Fields.adopting, declared.Record.Record, declared.Opening.Opening}
 use Rattle.record.specs.Live as Tickets
-use Rattle.record.specs.declared.{Record.Record, Opening.Opening}
 use Rattle.step_begins.specs.{Opening.opening, Opening.openStep, Beginning.begun}
 use Rattle.step_asks.specs.Asks.{turned}
 use Rattle.step_reports.specs.Reports.{storing}
 use Rattle.step_ends.specs.Ending.{idleAt}
-use Rattle.calls.specs.Calls.{Report, Report.structured, Report.updated, Report.rolledBack, Call}
-use Rattle.demand_steps.specs.Watching.{Item, Item.settle, Item.apply, Item.undo, Watch, isFor, sees, watch, unwatched}
-use Rattle.demand_steps.proofs.{Facts.Whole, Facts.byCase, Testing.ranges, Wholeness.successor-test, Tickets.is-live, Tickets.onStructure, Tickets.onUpdate, Tickets.onRollback}
-use Rattle.demand_steps.proofs.Moves.{Along, Along.start, Along.close, Along.back, goes-up, goes-down, inAlong}
-use Rattle.demand_steps.proofs.Leaf.Leaf.{kept, began, structureAsked, updateEnded, updateAsked, rollbackEnded, turnedEmpty, turnedAsked, waited, went, updateTaken, undoTaken, committed, recovered, restored}
-use Rattle.demand_steps.proofs.Leaf.{Leaf}
+use Rattle.calls.specs.{Calls.Report, Calls.Report.structured, Calls.Report.updated, Calls.Report.rolledBack, Calls.Call}
+use Rattle.demand_steps.specs.{Watching.Item, Watching.Item.settle, Watching.Item.apply, Watching.Item.undo, Watching.Watch, Watching.isFor, Watching.sees}
+use Rattle.demand_steps.specs.{Watching.watch, Watching.unwatched}
+use Rattle.demand_steps.proofs.{Facts.Whole, Facts.byCase, Testing.ranges, Wholeness.successor-test, Tickets.is-live, Tickets.onStructure, Tickets.onUpdate}
+use Rattle.demand_steps.proofs.{Tickets.onRollback, Moves.Along, Moves.Along.start, Moves.Along.close, Moves.Along.back, Moves.goes-up, Moves.goes-down, Moves.inAlong}
+use Rattle.demand_steps.proofs.{Leaf.Leaf.kept, Leaf.Leaf.began, Leaf.Leaf.structureAsked, Leaf.Leaf.updateEnded, Leaf.Leaf.updateAsked, Leaf.Leaf.rollbackEnded}
+use Rattle.demand_steps.proofs.{Leaf.Leaf.turnedEmpty, Leaf.Leaf.turnedAsked, Leaf.Leaf.waited, Leaf.Leaf.went, Leaf.Leaf.updateTaken, Leaf.Leaf.undoTaken}
+use Rattle.demand_steps.proofs.{Leaf.Leaf.committed, Leaf.Leaf.recovered, Leaf.Leaf.restored, Leaf.Leaf}
 use Rattle.demand_chains.specs.Sending.{Sent, afterSent, heardSent}
 use Rattle.demand_chains.proofs.{Noting.Tied, Noting.note-ahead, Noting.note-behind, Sending.chain-keeps, Chain.Good, Chain.good-leaf, Theorems.good}
 use Rattle.clauses.specs.Chains.{forwardStages, recoveryStages, stageOf, stages, Steps, Listed}
