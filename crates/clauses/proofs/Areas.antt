@@ -4,21 +4,21 @@ use mathlib.Core.{Path._≡_, Path.refl, Path.sym, Path._∙_, Path.ap, Path.sub
 use native.Mathlib.Omega.{arith}
 use lib.{Dec.eqb, ListN.length}
 use Rattle.choice.specs.Pick.{_and_}
-use Rattle.choice.proofs.{Tests.tests, Tests.both, Tests.test, Tests.never}
+use Rattle.choice.proofs.Tests.{tests, both, test, never}
 use Rattle.areas.specs.Areas.{sized, copied}
 use Rattle.batch.specs.Batch.{limit, tableSized, paired, stored}
 use Rattle.batch.proofs.Laws.{stored-identities}
-use Rattle.phases.specs.declared.{Next.Next, Next.the-variants.To, Next.the-variants.Nowhere}
-use Rattle.record.specs.Classes.{refused, Class.performed}
-use Rattle.record.specs.{Answers.Told, Leaves.Leaves, Given.beginning, Fields.top}
-use Rattle.record.specs.declared.{Record.Record, Outcome.Outcome, Beginning.Beginning}
+use Rattle.phases.specs.{declared.Next.Next, declared.Next.the-variants.To, declared.Next.the-variants.Nowhere}
+use Rattle.record.specs.{Classes.refused, Classes.Class.performed, Answers.Told, Leaves.Leaves, Given.beginning, Fields.top, declared.Record.Record}
+use Rattle.record.specs.{declared.Outcome.Outcome, declared.Beginning.Beginning}
 use Rattle.wholeness.specs.Whole.{whole}
 use Rattle.log.specs.Log.{sound}
 use Rattle.noting.specs.{Recorded.withLog, Through.leavesThrough}
 use Rattle.step_begins.specs.Beginning.{editOwn}
 use Rattle.step_reports.specs.{Done.onward, Done.advanced, Done.structureDone, Reports.reportStructureOwn}
-use Rattle.calls.specs.Calls.{Report, Call, step, AnyCall.calls}
-use Rattle.calls.specs.Lending.{Stored.structured, Stored.updated, Stored.rolledBack, Lending, Lending.begin, Lending.report, Lending.edit, callOf, fits, moved, leavesOf}
+use Rattle.calls.specs.{Calls.Report, Calls.Call, Calls.step, Calls.AnyCall.calls, Lending.Stored.structured, Lending.Stored.updated, Lending.Stored.rolledBack}
+use Rattle.calls.specs.{Lending.Lending, Lending.Lending.begin, Lending.Lending.report, Lending.Lending.edit, Lending.callOf, Lending.fits, Lending.moved}
+use Rattle.calls.specs.{Lending.leavesOf}
 use Rattle.demand_steps.proofs.{Own.own, Facts.Whole}
 use Rattle.clauses.specs.{Lending.Stages, Lending.Holds, Lending.SameIdentities, Staging.Begun, Gaps.BeginAnswer, Gaps.Rejects, Recording.unlogged}
 use Rattle.clauses.proofs.{Splitting.by, Splitting.outcomes, Splitting.facts-after, Splitting.on-step, Stagings.begin-answer, Stagings.begin-clauses}

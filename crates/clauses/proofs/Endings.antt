@@ -8,19 +8,17 @@ use borrow.Author.Tests.{eqb-true, ltb-true, ltb-false, le-ltb, not-true, not-fa
 use Rattle.choice.specs.Pick.{pick, _or_}
 use Rattle.choice.proofs.{Picks.yes, Picks.no, Tests.tests, Tests.never, Tests.both, Tests.either, Tests.neither}
 use Rattle.areas.specs.Areas.{areaSize, long}
-use Rattle.record.specs.Classes.{Class, Class.refusal}
-use Rattle.record.specs.{Answers.Told, Answers.answer, Fields.top}
-use Rattle.record.specs.declared.{Record.Record, Answer.the-variants.Done, Was.the-variants.Three}
-use Rattle.record.specs.declared.Refusal.the-variants.{Idle, NotReady}
+use Rattle.record.specs.{Classes.Class, Classes.Class.refusal, Answers.Told, Answers.answer, Fields.top, declared.Record.Record, declared.Answer.the-variants.Done}
+use Rattle.record.specs.{declared.Was.the-variants.Three, declared.Refusal.the-variants.Idle, declared.Refusal.the-variants.NotReady}
 use Rattle.wholeness.specs.{Whole.whole, Whole.complete, Gates.Bar, Gates.barring, Gates.longSnapshot}
 use Rattle.wholeness.proofs.Passing.{Clear}
 use Rattle.step_ends.specs.Ending.{idleAt, commitBars, commitOwn, unrestored, recoverBars, recoveredTo, recoverOwn, recoverRetainedOwn}
-use Rattle.calls.specs.Calls.{Call, step, Call.commit, Call.recover, Call.recoverRetained}
+use Rattle.calls.specs.{Calls.Call, Calls.step, Calls.Call.commit, Calls.Call.recover, Calls.Call.recoverRetained}
 use Rattle.demand_steps.proofs.{Own.own, Reading.whole-facts, Testing.ranges, Reopening.after-commit-opens}
-use Rattle.clauses.specs.Keeping.{gained}
-use Rattle.clauses.specs.Ending.{CanCommit, Committed, CommitClauses, CanRecover, Recovered, RecoverClauses}
-use Rattle.clauses.specs.Gaps.{RecoverAnswer}
-use Rattle.clauses.proofs.Splitting.{nor, Each, Decided, Decided.refuses, Decided.does, decides, only, denied, keeps, still-whole, settled}
+use Rattle.clauses.specs.{Keeping.gained, Ending.CanCommit, Ending.Committed, Ending.CommitClauses, Ending.CanRecover, Ending.Recovered, Ending.RecoverClauses}
+use Rattle.clauses.specs.{Gaps.RecoverAnswer}
+use Rattle.clauses.proofs.{Splitting.nor, Splitting.Each, Splitting.Decided, Splitting.Decided.refuses, Splitting.Decided.does, Splitting.decides, Splitting.only}
+use Rattle.clauses.proofs.{Splitting.denied, Splitting.keeps, Splitting.still-whole, Splitting.settled}
 
 -- 0 or q, and not 0
 the-other : (p q : ℕ) → eqb p 0 or eqb p q ≡ true → p ≢ 0 → p ≡ q

@@ -8,17 +8,19 @@ use Rattle.choice.specs.Pick.{pick}
 use Rattle.choice.proofs.Tests.{tests, both, join, eqb-ne}
 use Rattle.phases.specs.Phases.{updates, adopt, undo, recoverRemove}
 use Rattle.areas.specs.Areas.{areaSize}
-use Rattle.record.specs.{Classes.Class.stepping, Classes.StepAnswer.finished, Answers.Told, Fields.top, Fields.adopting, Live.isLive}
+use Rattle.record.specs.{Classes.Class.stepping, Classes.StepAnswer.finished, Answers.Told, Fields.top, Fields.adopting, Live.isLive, declared.Record.Record}
+use Rattle.record.specs.{declared.Outcome.Outcome, declared.Outcome.the-variants.Done}
 use Rattle.record.specs.Live as Tickets
-use Rattle.record.specs.declared.{Record.Record, Outcome.Outcome, Outcome.the-variants.Done}
 use Rattle.wholeness.specs.Whole.{whole}
 use Rattle.step_asks.specs.Asks.{turned, askStructureOwn, askUpdateOwn, askRollbackOwn}
-use Rattle.step_reports.specs.{Done.leaving, Done.structureDone, Done.updateDone, Done.rollbackDone, Reports.reported, Reports.reportStructureOwn, Reports.reportUpdateOwn, Reports.reportRollbackOwn}
-use Rattle.calls.specs.Calls.{step, Work.structure, Work.update, Work.rollback, Report.structured, Report.updated, Report.rolledBack, Call.ask, Call.report}
+use Rattle.step_reports.specs.{Done.leaving, Done.structureDone, Done.updateDone, Done.rollbackDone, Reports.reported, Reports.reportStructureOwn}
+use Rattle.step_reports.specs.{Reports.reportUpdateOwn, Reports.reportRollbackOwn}
+use Rattle.calls.specs.{Calls.step, Calls.Work.structure, Calls.Work.update, Calls.Work.rollback, Calls.Report.structured, Calls.Report.updated, Calls.Report.rolledBack}
+use Rattle.calls.specs.{Calls.Call.ask, Calls.Call.report}
 use Rattle.demand_steps.proofs.{Own.own, Moves.choice, Moves.turn}
 use Rattle.clauses.specs.Gaps.{Succeeds, StructureAsked, AtFinished, RollbackAsked}
-use Rattle.clauses.proofs.Splitting.{clash, fitted, differ, unended, by, outcomes, on-step}
-use Rattle.clauses.proofs.Onward.{no-successor, ended, exclusive, onwards}
+use Rattle.clauses.proofs.{Splitting.clash, Splitting.fitted, Splitting.differ, Splitting.unended, Splitting.by, Splitting.outcomes, Splitting.on-step}
+use Rattle.clauses.proofs.{Onward.no-successor, Onward.ended, Onward.exclusive, Onward.onwards}
 
 module _ (r : Record) (m : r .revision ≤ top) (w : whole r ≡ true) where
   -- a Done report with the live ticket, whose payloads fit

@@ -14,3 +14,5 @@ pub mod Recorder
 pub mod Areas
 pub mod Tables
 pub mod Statuses
+pub mod Stages
+pub mod Chains

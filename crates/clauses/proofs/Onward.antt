@@ -7,19 +7,15 @@ use borrow.Author.Tests.{eqb-true}
 use Rattle.choice.specs.Pick.{pick, _or_}
 use Rattle.choice.proofs.Tests.{either, neither}
 use Rattle.phases.specs.{Phases.hasSuccessor, Phases.successor, Phases.boundary, declared.Next.the-variants.To}
-use Rattle.record.specs.{Fields.top, Fields.spent, Fields.withPlace, Live.isLive}
+use Rattle.record.specs.{Fields.top, Fields.spent, Fields.withPlace, Live.isLive, declared.Record.Record, declared.Live.Live}
 use Rattle.record.specs.Live as Tickets
-use Rattle.record.specs.declared.{Record.Record, Live.Live}
 use Rattle.wholeness.specs.Whole.{whole}
 use Rattle.step_reports.specs.{Done.advanced, Reports.storing}
-use Rattle.demand_steps.proofs.{Leaf.Apart, Facts.Calm, Facts.Calm.on, Facts.Calm.off, Facts.tests, Facts.byCase, Reading.whole-facts, Reading.apart-of, Testing.ranges, Testing.right}
-use Rattle.demand_steps.proofs.{Wholeness.left, Wholeness.successor-test, Tickets.onStructure, Moves.goes-up, Moves.goes-down}
-use Rattle.clauses.specs.Structure.{Stepping, Advances}
-use Rattle.clauses.proofs.Splitting.{nope}
-
-use Rattle.demand_steps.proofs.Moves.{goes-up, goes-down}
-use Rattle.clauses.specs.Structure.{Stepping, Advances}
-use Rattle.clauses.proofs.Splitting.{nope}
+use Rattle.demand_steps.proofs.{Leaf.Apart, Facts.Calm, Facts.Calm.on, Facts.Calm.off, Facts.tests, Facts.byCase, Reading.whole-facts, Reading.apart-of, Testing.ranges}
+use Rattle.demand_steps.proofs.{Testing.right, Wholeness.left, Wholeness.successor-test, Tickets.onStructure, Moves.goes-up, Moves.goes-down, Moves.goes-up}
+use Rattle.demand_steps.proofs.{Moves.goes-down}
+use Rattle.clauses.specs.Structure.{Stepping, Advances, Stepping, Advances}
+use Rattle.clauses.proofs.Splitting.{nope, nope}
 
 -- a phase is staged
 pub calm-staged : {s : Bool} {v p n : ℕ} {l : Live} → Calm s v p n l → p ≢ 0 → s ≡ true

@@ -6,8 +6,8 @@ use lib.ListN.{length, getD, replicate}
 use borrow.Author.Tests.{ltb-false, le-ltb, not-false}
 use Rattle.choice.proofs.{Picks.no, Tests.both}
 use Rattle.areas.specs.Areas.{areaSize, sized, copied, long}
-use Rattle.record.specs.{Classes.Class.performed, Classes.refused, Answers.Told, Answers.answer, Leaves.moving, Given.at, Fields.top}
-use Rattle.record.specs.declared.{Opening.Opening, Answer.the-variants.Done, Was.the-variants.Nothing}
+use Rattle.record.specs.{Classes.Class.performed, Classes.refused, Answers.Told, Answers.answer, Leaves.moving, Given.at, Fields.top, declared.Opening.Opening}
+use Rattle.record.specs.{declared.Answer.the-variants.Done, declared.Was.the-variants.Nothing}
 use Rattle.wholeness.specs.Whole.{whole}
 use Rattle.step_begins.specs.Opening.{opening, openBars, openStep}
 use Rattle.step_ends.specs.Ending.{idleAt}
@@ -17,8 +17,7 @@ use Rattle.noting.specs.{Recorded.withLog, Through.leavesThrough}
 use Rattle.calls.specs.Lending.{Lending, leavesOf, unopened}
 use Rattle.demand_steps.proofs.{Wholeness.whole-test, Advancing.idles}
 use Rattle.clauses.specs.{Staging.OpenClauses, Lending.Opens, Recording.OpenRecorded}
-use Rattle.clauses.proofs.Splitting.{Decided, decide, decides, only, keeps}
-use Rattle.clauses.proofs.Lendings.{payload-copied}
+use Rattle.clauses.proofs.{Splitting.Decided, Splitting.decide, Splitting.decides, Splitting.only, Splitting.keeps, Lendings.payload-copied}
 
 -- an opening is whole
 opening-whole : (given : Opening) (l : ℕ) → given .revision ≤ top → l ≤ areaSize → whole (opening given l) ≡ true
@@ -27,7 +26,7 @@ opening-whole given l m h = whole-test (idles (given .revision) l (opening given
 
 module _ (given : Opening) (m : given .revision ≤ top) where
   module _ (sizes : Bool) (l : ℕ) where
-    opened : Decided unopened (λ c. refused c ≡ true) (answer (Done Nothing) (opening given l)) (openBars sizes l) (openStep sizes given l)
+    pub opened : Decided unopened (λ c. refused c ≡ true) (answer (Done Nothing) (opening given l)) (openBars sizes l) (openStep sizes given l)
     unfolding openStep
     opened = decide (openBars sizes l) (λ e. refl, λ e₁. (λ e. refl, λ e₂. refl))
 

@@ -6,16 +6,14 @@ use lib.Dec.{eqb}
 use borrow.Author.Tests.{ne-eqb, leb-true, not-true, not-false}
 use Rattle.choice.specs.Pick.{_or_}
 use Rattle.choice.proofs.Tests.{never, either, neither, join, no-left, no-right, tests}
-use Rattle.record.specs.{Classes.taken, Classes.Class.stepping, Classes.StepAnswer.finished, Answers.Told, Fields.top, Fields.spent, Fields.adopting, Live.isLive}
-use Rattle.record.specs.Live as Tickets
-use Rattle.record.specs.declared.{Record.Record, Outcome.Outcome}
+use Rattle.record.specs.{Classes.taken, Classes.Class.stepping, Classes.StepAnswer.finished, Answers.Told, Fields.top, Fields.adopting, declared.Record.Record}
+use Rattle.record.specs.{declared.Outcome.Outcome}
 use Rattle.wholeness.specs.Whole.{whole, complete}
 use Rattle.step_asks.specs.Asks.{askUpdateOwn, turned, askRollbackOwn}
 use Rattle.step_reports.specs.{Done.updateDone, Done.leaving, Done.rollbackDone, Reports.reportUpdateOwn, Reports.reportRollbackOwn}
-use Rattle.calls.specs.Calls.{step, Work.update, Work.rollback, Report.updated, Report.rolledBack, Call.ask, Call.report}
+use Rattle.calls.specs.{Calls.step, Calls.Work.update, Calls.Work.rollback, Calls.Report.updated, Calls.Report.rolledBack, Calls.Call.ask, Calls.Call.report}
 use Rattle.demand_steps.proofs.{Own.own, Reading.whole-facts, Testing.ranges, Wholeness.updates-test, Tickets.onUpdate, Tickets.onRollback}
-use Rattle.clauses.specs.Keeping.{gained, SameStaged, Framed}
-use Rattle.clauses.specs.Polls.{unfinished, UpdateClauses, RollbackClauses}
+use Rattle.clauses.specs.{Keeping.gained, Keeping.SameStaged, Keeping.Framed, Polls.unfinished, Polls.UpdateClauses, Polls.RollbackClauses}
 use Rattle.clauses.proofs.Splitting.{clash, nope, differ, unended, by, outcomes, on-step}
 
 -- 0 or 5, and neither

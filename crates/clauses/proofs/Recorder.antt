@@ -6,19 +6,18 @@ use mathlib.Core.{Path._≡_, Path.refl, Path.sym, Path._∙_, Path.ap, Path.sub
 use borrow.Author.Tests.{not-true, not-false}
 use Rattle.choice.specs.Pick.{pick, _and_, _or_}
 use Rattle.choice.proofs.{Picks.yes, Picks.no, Picks.picked, Tests.both, Tests.never}
-use Rattle.record.specs.Classes.{Class, refused, entered, callWritten, Class.performed, Class.refusal, Class.stepping}
-use Rattle.record.specs.{Answers.Told, Answers.refuse, Leaves.Leaves, Leaves.leaves, Leaves.moving, Fields.top}
-use Rattle.record.specs.declared.{Record.Record, Refusal.Refusal, Refusal.the-variants.BadArea, Refusal.the-variants.Damaged, Refusal.the-variants.LogFull}
+use Rattle.record.specs.{Classes.Class, Classes.refused, Classes.entered, Classes.callWritten, Classes.Class.performed, Classes.Class.refusal, Classes.Class.stepping}
+use Rattle.record.specs.{Answers.Told, Answers.refuse, Leaves.Leaves, Leaves.leaves, Leaves.moving, Fields.top, declared.Record.Record, declared.Refusal.Refusal}
+use Rattle.record.specs.{declared.Refusal.the-variants.BadArea, declared.Refusal.the-variants.Damaged, declared.Refusal.the-variants.LogFull}
 use Rattle.wholeness.specs.{Whole.whole, Gates.gateOf, Gates.gated}
 use Rattle.log.specs.Log.{sound, appended}
 use Rattle.noting.specs.{Recorded.withLog, Recorded.recorded, Through.inner, Through.logs, Through.leavesThrough}
-use Rattle.calls.specs.{Calls.Call, Calls.AnyCall, Calls.stepOf, Calls.AnyCall.calls, Kinds.kindOf, Kinds.writtenAs, Lending.Lending, Lending.callOf, Lending.fits, Lending.lent, Lending.moved}
+use Rattle.calls.specs.{Calls.Call, Calls.AnyCall, Calls.stepOf, Calls.AnyCall.calls, Kinds.kindOf, Kinds.writtenAs, Lending.Lending, Lending.callOf, Lending.fits}
+use Rattle.calls.specs.{Lending.lent, Lending.moved}
 use Rattle.demand_refusals.{specs.Refusals.returned, proofs.ExactRefusals.refusal-returns}
 use Rattle.demand_steps.proofs.Testing.{not-yes}
 use Rattle.clauses.specs.{Clauses.Clauses, Lending.Lends, Lending.unrecorded, Recording.unlogged, Recording.Recorded, Recording.Through, Recording.Carries}
-use Rattle.clauses.proofs.Splitting.{clash}
-use Rattle.clauses.proofs.Lendings.{Gates, Gates.behind, Gates.alone, gates, lends}
-use Rattle.clauses.proofs.Clauses.{clauses}
+use Rattle.clauses.proofs.{Splitting.clash, Lendings.Gates, Lendings.Gates.behind, Lendings.Gates.alone, Lendings.gates, Lendings.lends, Clauses.clauses}
 
 -- any step that a refusal leaves as it was
 records : (written : Class → Bool) (kind : ℕ) (t : Told) (r : Record) (log : List ℕ) (lent moved : List (List ℕ)) → (refused (t .class) ≡ true → t .state ≡ r) →

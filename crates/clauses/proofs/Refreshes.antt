@@ -5,18 +5,16 @@ use native.Mathlib.Omega.{arith}
 use lib.ListN.{getD}
 use borrow.Author.Tests.{eq-eqb, eqb-true, ltb-false, le-ltb, not-true}
 use Rattle.choice.specs.Pick.{_or_}
-use Rattle.choice.proofs.{Tests.never, Tests.both, Tests.join}
+use Rattle.choice.proofs.Tests.{never, both, join}
 use Rattle.areas.specs.Areas.{long}
-use Rattle.record.specs.Classes.{refused}
-use Rattle.record.specs.{Answers.answer, Fields.top, Fields.withLengths}
-use Rattle.record.specs.declared.{Record.Record, Answer.the-variants.Done, Was.the-variants.One}
-use Rattle.wholeness.specs.{Whole.whole}
+use Rattle.record.specs.{Classes.refused, Answers.answer, Fields.top, Fields.withLengths, declared.Record.Record, declared.Answer.the-variants.Done}
+use Rattle.record.specs.{declared.Was.the-variants.One}
+use Rattle.wholeness.specs.Whole.{whole}
 use Rattle.step_ends.specs.Ending.{refreshBars, refreshOwn}
 use Rattle.step_stamps.specs.{Stamping.passes, declared.SaveStamp.SaveStamp}
-use Rattle.calls.specs.Calls.{step, Call.refresh, Call.stamp, Call.check}
+use Rattle.calls.specs.{Calls.step, Calls.Call.refresh, Calls.Call.stamp, Calls.Call.check}
 use Rattle.demand_steps.proofs.{Own.own, Testing.not-yes}
-use Rattle.clauses.specs.Keeping.{SameStaged, SameBatch}
-use Rattle.clauses.specs.Ending.{RefreshClauses, StampClauses, CheckClauses}
+use Rattle.clauses.specs.{Keeping.SameStaged, Keeping.SameBatch, Ending.RefreshClauses, Ending.StampClauses, Ending.CheckClauses}
 use Rattle.clauses.proofs.Splitting.{clash, nope, by, Decided, decides, only, denied, keeps, still-whole, on-step, settled}
 
 module _ (r : Record) (m : r .revision ≤ top) (w : whole r ≡ true) where

@@ -5,13 +5,14 @@ use Prim.Native.Nat.{ℕ, _≤_}
 use mathlib.Core.{Path._≡_, Path.refl, Path.sym, Path._∙_, Path.ap, Bool.true, Bool.false, Bool.not, List.[]}
 use Rattle.choice.proofs.Picks.{yes, no}
 use Rattle.areas.specs.Areas.{areaSize}
-use Rattle.record.specs.{Classes.refused, Classes.Class.refusal, Answers.Told, Given.effectOf, Fields.spent}
+use Rattle.record.specs.{Classes.refused, Classes.Class.refusal, Answers.Told, Given.effectOf, Fields.spent, declared.Record.Record, declared.Outcome.Outcome}
+use Rattle.record.specs.{declared.Refusal.the-variants.Damaged}
 use Rattle.record.specs.Live as Tickets
-use Rattle.record.specs.declared.{Record.Record, Outcome.Outcome, Refusal.the-variants.Damaged}
 use Rattle.record.specs.declared.Outcome.the-variants as O
 use Rattle.wholeness.specs.{Whole.whole, Gates.barring, Gates.longPayloads}
-use Rattle.step_reports.specs.{Done.structureDone, Done.updateDone, Done.rollbackDone, Reports.storing, Reports.stale, Reports.reported, Reports.reportStructureOwn, Reports.reportUpdateOwn, Reports.reportRollbackOwn}
-use Rattle.calls.specs.Calls.{Call, step, AnyCall.calls, Report.structured, Report.updated, Report.rolledBack, Call.report}
+use Rattle.step_reports.specs.{Done.structureDone, Done.updateDone, Done.rollbackDone, Reports.storing, Reports.stale, Reports.reported, Reports.reportStructureOwn}
+use Rattle.step_reports.specs.{Reports.reportUpdateOwn, Reports.reportRollbackOwn}
+use Rattle.calls.specs.{Calls.Call, Calls.step, Calls.AnyCall.calls, Calls.Report.structured, Calls.Report.updated, Calls.Report.rolledBack, Calls.Call.report}
 use Rattle.demand_refusals.specs.Refusals.{returned}
 use Rattle.demand_refusals.proofs.ExactRefusals.{refusal-returns}
 use Rattle.demand_steps.proofs.{Own.own, Own.whole-step, Own.damaged-step, Testing.not-yes}

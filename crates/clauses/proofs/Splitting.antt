@@ -7,18 +7,16 @@ use borrow.Author.Tests.{le-ltb}
 use Rattle.choice.specs.Pick.{pick, _or_}
 use Rattle.choice.proofs.{Picks.picked, Tests.never, Tests.neither, Tests.eqb-ne, Tests.tests}
 use Rattle.areas.specs.Areas.{areaSize, long}
-use Rattle.record.specs.Classes.{Class, StepAnswer, numberOf, refused, takes, taken, Class.performed, Class.refusal, Class.stepping, StepAnswer.finished}
-use Rattle.record.specs.{Answers.Told, Answers.told, Answers.said, Answers.refuse, Given.effectOf, Fields.top}
-use Rattle.record.specs.declared.{Record.Record, Outcome.Outcome, Refusal.Refusal}
+use Rattle.record.specs.{Classes.Class, Classes.StepAnswer, Classes.numberOf, Classes.refused, Classes.takes, Classes.taken, Classes.Class.performed}
+use Rattle.record.specs.{Classes.Class.refusal, Classes.Class.stepping, Classes.StepAnswer.finished, Answers.Told, Answers.told, Answers.said, Answers.refuse}
+use Rattle.record.specs.{Given.effectOf, Fields.top, declared.Record.Record, declared.Outcome.Outcome, declared.Refusal.Refusal}
 use Rattle.record.specs.declared.Outcome.the-variants as O
 use Rattle.wholeness.specs.{Whole.whole, Gates.Bar, Gates.barring}
 use Rattle.wholeness.proofs.Passing.{Clear}
 use Rattle.step_reports.specs.Reports.{reported}
 use Rattle.calls.specs.Calls.{Call, step}
 use Rattle.demand_steps.proofs.{Own.own, Own.whole-step, Facts.Whole, Classify.leaf, Preserve.preserve, Reading.whole-facts, Wholeness.whole-test}
-
-pub clash : (b : Bool) {P : Type 0} → b ≡ true → b ≡ false → P
-clash b p q = never (sym p ∙ q)
+pub use Rattle.demand_chains.proofs.Granting.{clash}
 
 -- a test that does not hold
 pub nope : {P : Type 0} → false ≡ true → P

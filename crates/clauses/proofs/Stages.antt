@@ -1,104 +1,105 @@
--- C46, C48: in every chain the phases that were reported done are the start of the fixed list, as many as the record's count says,
--- before and after a rollback. Assumes nothing.
-use Prim.Native.Nat.{ℕ, _-_, _≤_, _<_}
-use mathlib.Core.Path.{_≡_, refl, _∙_, ap}
-use mathlib.Core.Bool.{Bool, true}
-use mathlib.Core.List.{List, [], _∷_}
+-- C46, C48: in every chain the phases that were reported done are the start of the fixed list, as many as the record's count says, before
+-- and after a rollback: a report of structure work adds the next of the list, any other report none. Assumes nothing.
+use Prim.Native.Nat.{ℕ, zero, suc, _+_, _-_, _≤_, _<_}
+use mathlib.Core.{Path._≡_, Path.refl, Path.sym, Path._∙_, Path.ap, Bool.Bool, Bool.true, List.List, List.[], List._∷_, List._++_, List.append-nil, List.append-assoc}
 use native.Mathlib.Omega.{arith}
-use lib.Dec.{eqb}
-use Rattle.choice.specs.Pick.{pick, _or_}
-use Rattle.record.specs.Answers.{Told, said}
-use Rattle.record.specs.Live.{isLive}
+use lib.ListN.{take}
+use Rattle.choice.specs.Pick.{pick}
+use Rattle.phases.specs.Phases.{remove, adopt, recoverRemove}
+use Rattle.record.specs.{Classes.successful, Answers.Told, Answers.saidOf, Fields.top, Fields.spent, Fields.adopting, declared.Record.Record, declared.Opening.Opening}
 use Rattle.record.specs.Live as Tickets
-use Rattle.record.specs.Fields.{top, spent, adopting}
-use Rattle.record.specs.declared.Record.{Record}
-use Rattle.record.specs.declared.Outcome.the-variants as O
-use Rattle.step_begins.specs.Opening.{opening, openStep}
-use Rattle.step_begins.specs.Beginning.{begun}
+use Rattle.step_begins.specs.{Opening.opening, Opening.openStep, Beginning.begun}
 use Rattle.step_asks.specs.Asks.{turned}
-use Rattle.step_reports.specs.Done.{advanced, leaving}
 use Rattle.step_reports.specs.Reports.{storing}
 use Rattle.step_ends.specs.Ending.{idleAt}
-use Rattle.calls.specs.Calls.{Call}
+use Rattle.calls.specs.{Calls.Report, Calls.Report.structured, Calls.Report.updated, Calls.Report.rolledBack, Calls.Call}
+use Rattle.demand_steps.specs.{Watching.Item, Watching.Item.settle, Watching.Item.apply, Watching.Item.undo, Watching.Watch, Watching.isFor, Watching.sees}
+use Rattle.demand_steps.specs.{Watching.watch, Watching.unwatched}
+use Rattle.demand_steps.proofs.{Facts.Whole, Facts.byCase, Testing.ranges, Wholeness.successor-test, Tickets.is-live, Tickets.onStructure, Tickets.onUpdate}
+use Rattle.demand_steps.proofs.{Tickets.onRollback, Moves.Along, Moves.Along.start, Moves.Along.close, Moves.Along.back, Moves.goes-up, Moves.goes-down, Moves.inAlong}
+use Rattle.demand_steps.proofs.{Leaf.Leaf.kept, Leaf.Leaf.began, Leaf.Leaf.structureAsked, Leaf.Leaf.updateEnded, Leaf.Leaf.updateAsked, Leaf.Leaf.rollbackEnded}
+use Rattle.demand_steps.proofs.{Leaf.Leaf.turnedEmpty, Leaf.Leaf.turnedAsked, Leaf.Leaf.waited, Leaf.Leaf.went, Leaf.Leaf.updateTaken, Leaf.Leaf.undoTaken}
+use Rattle.demand_steps.proofs.{Leaf.Leaf.committed, Leaf.Leaf.recovered, Leaf.Leaf.restored, Leaf.Leaf}
 use Rattle.demand_chains.specs.Sending.{Sent, afterSent, heardSent}
-use Rattle.demand_steps.specs.Watching.{Watch, settles, applies, undoes, reported, sees, watch, unwatched}
-use Rattle.demand_steps.specs.Watching.Item.{settle, apply, undo}
-use Rattle.demand_steps.proofs.Leaf.{Leaf}
-use Rattle.demand_steps.proofs.Leaf.Leaf.{kept, began, beganStructural, structureAsked, updateEnded, updateAsked, rollbackEnded, turnedEmpty, turnedAsked, waited, waitedStoring, went, updateLast, updateMore, undoLast, undoMore, edited, committed, recovered, restored, refreshed}
-use Rattle.demand_steps.proofs.Facts.{Whole, byCase}
-use Rattle.demand_steps.proofs.Testing.{ranges}
-use Rattle.demand_steps.proofs.Tickets.{is-structure, is-update, is-rollback, onStructure}
-use Rattle.demand_steps.proofs.Wholeness.{successor-test}
-use Rattle.demand_steps.proofs.Moves.{goes-up, goes-down, inAlong}
-use Rattle.demand_chains.proofs.Noting.{Tied, note-ahead, note-behind}
-use Rattle.demand_chains.proofs.Sending.{sent-leaf}
-use Rattle.demand_chains.proofs.Chain.{Good, good-leaf}
-use Rattle.demand_chains.proofs.Theorems.{good}
-use Rattle.clauses.specs.Chains.{stageOf, Steps, Listed}
-use Rattle.clauses.proofs.Openings.{open-clauses}
-use Rattle.clauses.proofs.Listing.{one-more, forth, away, unlisted}
+use Rattle.demand_chains.proofs.{Noting.Tied, Noting.note-ahead, Noting.note-behind, Sending.chain-keeps, Chain.Good, Chain.good-leaf, Theorems.good}
+use Rattle.clauses.specs.Chains.{forwardStages, recoveryStages, stageOf, stages, Steps, Listed}
+use Rattle.clauses.proofs.{Splitting.keeps, Openings.opened}
+
+-- one more report, for a phase or for none
+one-more : (is : List Item) (i : Item) → stages (is ++ (i ∷ [])) ≡ stages is ++ stageOf i
+one-more [] i = append-nil (stageOf i)
+one-more (j ∷ js) i = rw (one-more js i) (sym (append-assoc (stageOf j) (stages js) (stageOf i)))
+
+same : (is : List Item) (i : Item) → stageOf i ≡ [] → stages (is ++ (i ∷ [])) ≡ stages is
+same is i e = one-more is i ∙ rw e (append-nil (stages is))
+
+-- and one more of a fixed list: both begin with four phases in a row, from q on
+in-a-row : (q i p : ℕ) (more : List ℕ) → q + i ≡ p → i < 4 →
+    take i (q ∷ (q + 1) ∷ (q + 2) ∷ (q + 3) ∷ more) ++ (p ∷ []) ≡ take (i + 1) (q ∷ (q + 1) ∷ (q + 2) ∷ (q + 3) ∷ more)
+in-a-row q zero p more e h = ap (λ (n : ℕ). n ∷ []) (omega arith)
+in-a-row q (suc zero) p more e h = rw (← e)
+in-a-row q (suc (suc zero)) p more e h = rw (← e)
+in-a-row q (suc (suc (suc zero))) p more e h = rw (← e)
+in-a-row q (suc (suc (suc (suc i)))) p more e h = absurd (omega arith)
+
+module _ {p f b n a k : ℕ} {v : Bool} where
+  forth : Along p f b n a k v → p ≤ 6 → take f forwardStages ++ (p ∷ []) ≡ take (f + 1) forwardStages
+  forth (start x1 x2 x3 x4 x5 x6) h = in-a-row remove f p (adopt ∷ []) (omega arith) (omega arith)
+  forth (close x1 x2 x3 x4 x5) h = rw (x2, x3)
+  forth (back x1 x2 x3 x4 x5 x6 x7) h = absurd (omega arith)
+
+  away : Along p f b n a k v → 6 < p → take b recoveryStages ++ (p ∷ []) ≡ take (b + 1) recoveryStages
+  away (start x1 x2 x3 x4 x5 x6) h = absurd (omega arith)
+  away (close x1 x2 x3 x4 x5) h = absurd (omega arith)
+  away (back x1 x2 x3 x4 x5 x6 x7) h = in-a-row recoverRemove b p [] (omega arith) (omega arith)
 
 -- at the start of a transaction
 none : Steps [] [] 0 0
 none = record { c46 = refl; c48 = refl }
 
-module _ {r : Record} (w : Watch) (h : Whole r) (d : Tied w r) (s : Listed w r) where
-  -- a Done report that is for a phase
-  listed : (n t new old : ℕ) → eqb n 23 or eqb n 24 ≡ true → isLive Tickets.structure t (r .live) ≡ true → Listed (reported settles t O.Done (said n []) w) (advanced (spent (storing new old r)))
-  listed n t new old o l =
-      let y = onStructure h l .apart in
-      let q : (w .ticket ≡ t) × (w .item ≡ settle (r .phase .number)) = rw (is-structure (r .live) t l) at (d .last) in
-      let x : Record = spent (storing new old r) in
-      let m = ranges (h .stage) in
-      let e = successor-test (r .phase .number) (m .bound) y in
-      byCase 6 (r .phase .number)
-      (λ (j : 6 < r .phase .number). rw (goes-down x e j, note-behind settles n t [] w o (q .0) (ap settles (q .1)) (d .turning ∙ m .turned .behind (omega (arith, y)))) record {
-        c46 = s .c46;
-        c48 = one-more (w .undone) (w .item) ∙ rw (q .1, s .c48) (away (inAlong (h .stage) y) j);
-      })
-      (λ (j : r .phase .number ≤ 6). rw (goes-up x e j, note-ahead settles n t [] w o (q .0) (ap settles (q .1)) (d .turning ∙ m .turned .ahead (omega (arith, y)) (omega arith))) record {
-        c46 = one-more (w .done) (w .item) ∙ rw (q .1, s .c46) (forth (inAlong (h .stage) y) j);
-        c48 = s .c48;
-      })
-
-  -- and one that is for an update, or an undo
-  for-update : (t : ℕ) → isLive Tickets.update t (r .live) ≡ true → stageOf (w .item) ≡ []
-  for-update t l = let q : (w .ticket ≡ t) × (w .item ≡ apply (r .applied)) = rw (is-update (r .live) t l) at (d .last) in ap stageOf (q .1)
-
-  for-rollback : (t : ℕ) → isLive Tickets.rollback t (r .live) ≡ true → stageOf (w .item) ≡ []
-  for-rollback t l = let q : (w .ticket ≡ t) × (w .item ≡ undo (r .entries - 1)) = rw (is-rollback (r .live) t l) at (d .last) in ap stageOf (q .1)
-
-  steps : {c : Call} {x : Told} → Leaf r c x → Listed (sees w c (said (x .number) (x .values))) (x .state)
-  unfolding sees begun turned adopting leaving idleAt pick _or_
-  steps (kept u) = rw (u w) s
-  steps (began z i l c o m) = none
-  steps (beganStructural z i l c o m) = none
-  steps (structureAsked y) = s
-  steps (updateEnded u e n) = s
-  steps (updateAsked u e n) = s
-  steps (rollbackEnded p) = s
-  steps (turnedEmpty p n) = s
-  steps (turnedAsked p n) = s
-  steps (waited u) = rw (u w) s
-  steps (waitedStoring u i j) = rw (u w) s
-  steps (went {t = t} {new = new} {old = old} {n = n} o l i j) = listed n t new old o l
-  steps (updateLast {t = t} l n) = unlisted applies t 24 w (for-update t l) s
-  steps (updateMore {t = t} l n) = unlisted applies t 23 w (for-update t l) s
-  steps (undoLast {t = t} l n) = unlisted undoes t 24 w (for-rollback t l) s
-  steps (undoMore {t = t} l n) = unlisted undoes t 23 w (for-rollback t l) s
-  steps (edited i j) = s
-  steps (committed i) = none
-  steps (recovered i) = none
-  steps restored = none
-  steps (refreshed i) = s
-
-chain : (w : Watch) (r : Record) (ss : List Sent) → Good w r → Listed w r → Listed (watch w (heardSent r ss)) (afterSent r ss)
-unfolding watch heardSent afterSent
-chain w r [] g s = s
-chain w r (x ∷ xs) g s = let l = sent-leaf r x in chain _ _ xs (good-leaf g l) (steps w (g .is-whole) (g .tied) s l)
+steps : {r : Record} {c : Call} {x : Told} (w : Watch) → Whole r → Tied w r → Listed w r → Leaf r c x → Listed (sees w c (saidOf x)) (x .state)
+unfolding sees begun turned adopting idleAt pick
+steps w h d s (kept u f) = rw (u w) s
+steps w h d s (began i l f m) = none
+steps w h d s (structureAsked y) = s
+steps w h d s (updateEnded u e n) = s
+steps w h d s (updateAsked u e n) = s
+steps w h d s (rollbackEnded p) = s
+steps w h d s (turnedEmpty p n) = s
+steps w h d s (turnedAsked p n) = s
+steps w h d s (waited u f) = rw (u w) s
+steps {r} w h d s (went {t = t} {n = new} {o = old} {s = a} o l f) =
+    let y = onStructure h l .apart in
+    let q : (w .ticket ≡ t) × (w .item ≡ settle (r .phase .number)) = rw (is-live Tickets.structure t (r .live) l) at (d .last) in
+    let of : Report = structured new old in
+    let x : Record = spent (storing new old r) in
+    let m = ranges (h .stage) in
+    let e = successor-test (r .phase .number) (m .bound) y in
+    byCase 6 (r .phase .number)
+    (λ (j : 6 < r .phase .number). rw (goes-down x e j, note-behind of t a w o (q .0) (ap (isFor of) (q .1)) (d .turning ∙ m .turned .behind (omega (arith, y)))) record {
+      c46 = s .c46;
+      c48 = one-more (w .undone) (w .item) ∙ rw (q .1, s .c48) (away (inAlong (h .stage) y) j);
+    })
+    (λ (j : r .phase .number ≤ 6). rw (goes-up x e j, note-ahead of t a w o (q .0) (ap (isFor of) (q .1)) (d .turning ∙ m .turned .ahead (omega (arith, y)) (omega arith))) record {
+      c46 = one-more (w .done) (w .item) ∙ rw (q .1, s .c46) (forth (inAlong (h .stage) y) j);
+      c48 = s .c48;
+    })
+steps {r} w h d s (updateTaken {t = t} {s = a} o l g) =
+    let q : (w .ticket ≡ t) × (w .item ≡ apply (r .applied)) = rw (is-live Tickets.update t (r .live) l) at (d .last) in
+    rw (note-ahead updated t a w o (q .0) (ap (isFor updated) (q .1)) (d .turning ∙ onUpdate h l .ahead))
+    record { c46 = same (w .done) (w .item) (ap stageOf (q .1)) ∙ s .c46; c48 = s .c48 }
+steps {r} w h d s (undoTaken {t = t} {s = a} o l g) =
+    let q : (w .ticket ≡ t) × (w .item ≡ undo (r .entries - 1)) = rw (is-live Tickets.rollback t (r .live) l) at (d .last) in
+    rw (note-behind rolledBack t a w o (q .0) (ap (isFor rolledBack) (q .1)) (d .turning ∙ onRollback h l .behind))
+    record { c46 = s .c46; c48 = same (w .undone) (w .item) (ap stageOf (q .1)) ∙ s .c48 }
+steps w h d s (committed i) = none
+steps w h d s (recovered i) = none
+steps w h d s restored = none
 
 -- in every chain from an opening that is not refused
-pub steps-listed : (sized : Bool) (v s l : ℕ) (m : v ≤ top) (o : openStep sized v s l .number ≡ 0) (ss : List Sent) →
-    Listed (watch unwatched (heardSent (openStep sized v s l .state) ss)) (afterSent (openStep sized v s l .state) ss)
-unfolding watch heardSent afterSent unwatched opening
-steps-listed sized v s l m o ss = chain _ _ ss (good sized v s l m o []) (rw (open-clauses sized v s l m .c111-record o) none)
+pub steps-listed : (sized : Bool) (given : Opening) (l : ℕ) (m : given .revision ≤ top) (o : successful (openStep sized given l .class) ≡ true) (ss : List Sent) →
+    Listed (watch unwatched (heardSent (openStep sized given l .state) ss)) (afterSent (openStep sized given l .state) ss)
+unfolding opening unwatched watch heardSent afterSent
+steps-listed sized given l m o ss =
+    chain-keeps (λ w r. Good w r × Listed w r) (λ w r c x k p. (good-leaf k (p .0), steps w (p .0 .is-whole) (p .0 .tied) (p .1) k)) unwatched _ ss
+    (good sized given l m o [], keeps (λ s. Steps [] [] (s .forward) (s .back)) (opened given m sized l) none none) .1

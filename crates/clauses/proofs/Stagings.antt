@@ -4,19 +4,18 @@ use mathlib.Core.{Path._≡_, Path.refl, Path.ap, Bool.Bool, Bool.true, Bool.fal
 use borrow.Author.Tests.{eqb-true, ne-eqb, ltb-true, ltb-false, le-ltb, not-true}
 use Rattle.choice.specs.Pick.{pick}
 use Rattle.choice.proofs.{Picks.yes, Picks.no, Tests.never, Tests.eqb-ne}
-use Rattle.record.specs.Classes.{Class, Class.refusal}
-use Rattle.record.specs.{Answers.Told, Answers.answer, Fields.top, Fields.withLengths}
-use Rattle.record.specs.declared.{Record.Record, Beginning.Beginning, Answer.the-variants.Done, Was.the-variants.Nothing}
-use Rattle.record.specs.declared.Refusal.the-variants.{Pending, Idle, Capacity}
+use Rattle.record.specs.{Classes.Class, Classes.Class.refusal, Answers.Told, Answers.answer, Fields.top, Fields.withLengths, declared.Record.Record}
+use Rattle.record.specs.{declared.Beginning.Beginning, declared.Answer.the-variants.Done, declared.Was.the-variants.Nothing, declared.Refusal.the-variants.Pending}
+use Rattle.record.specs.{declared.Refusal.the-variants.Idle, declared.Refusal.the-variants.Capacity}
 use Rattle.wholeness.specs.Whole.{whole}
 use Rattle.wholeness.proofs.Passing.{Clear}
 use Rattle.step_begins.specs.Beginning.{firstPhase, begun, beginBars, beginOwn, editBars, editOwn}
-use Rattle.calls.specs.Calls.{step, Call.begin, Call.edit}
+use Rattle.calls.specs.{Calls.step, Calls.Call.begin, Calls.Call.edit}
 use Rattle.demand_steps.proofs.Own.{own}
-use Rattle.clauses.specs.Keeping.{gained, SameBatch}
-use Rattle.clauses.specs.Staging.{CanBegin, Begun, BeginClauses, EditClauses}
-use Rattle.clauses.specs.Gaps.{BeginAnswer, BeginAnswer.pending, BeginAnswer.capacity, BeginAnswer.tooLong, BeginAnswer.tooMany, BeginAnswer.begins}
-use Rattle.clauses.proofs.Splitting.{fitting, fitted, differ, bar, Each, Decided, Decided.refuses, Decided.does, decides, only, denied, keeps, still-whole, settled}
+use Rattle.clauses.specs.{Keeping.gained, Keeping.SameBatch, Staging.CanBegin, Staging.Begun, Staging.BeginClauses, Staging.EditClauses, Gaps.BeginAnswer}
+use Rattle.clauses.specs.{Gaps.BeginAnswer.pending, Gaps.BeginAnswer.capacity, Gaps.BeginAnswer.tooLong, Gaps.BeginAnswer.tooMany, Gaps.BeginAnswer.begins}
+use Rattle.clauses.proofs.{Splitting.fitting, Splitting.fitted, Splitting.differ, Splitting.bar, Splitting.Each, Splitting.Decided, Splitting.Decided.refuses}
+use Rattle.clauses.proofs.{Splitting.Decided.does, Splitting.decides, Splitting.only, Splitting.denied, Splitting.keeps, Splitting.still-whole, Splitting.settled}
 
 module _ (r : Record) (b : Beginning) where
   abbrev Error : Class → Type 0

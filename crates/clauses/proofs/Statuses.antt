@@ -7,12 +7,11 @@ use lib.Seq.{getD-set-same, getD-set-other}
 use borrow.Author.Tests.{eq-eqb, le-leb, leb-false, not-true, not-false}
 use Rattle.choice.specs.Pick.{pick, _and_, _or_}
 use Rattle.choice.proofs.{Picks.picked, Tests.tests, Tests.never, Tests.both, Tests.neither, Tests.join}
-use Rattle.record.specs.{Classes.refused, Classes.Class.performed, Answers.said}
-use Rattle.record.specs.declared.Refusal.{Refusal}
-use Rattle.status.specs.{Status.Marks, Status.leavesMarks, Status.groupLive, Status.groupSettled, Status.markLinked, Status.markCancelled}
-use Rattle.status.specs.{Status.markInitialized, Status.markFinished, Status.markMost, Status.has, Status.with, Status.bytesSound, Status.entryOf, Status.put}
-use Rattle.status.specs.{Status.marking, Status.marksOf}
-use Rattle.status.specs.declared.{StatusCall.StatusCall, StatusCall.the-variants.Initialize, Entry.Entry, Entry.the-variants.At, Entry.the-variants.No}
+use Rattle.record.specs.{Classes.refused, Classes.Class.performed, Answers.said, declared.Refusal.Refusal}
+use Rattle.status.specs.{Status.Marks, Status.leavesMarks, Status.groupLive, Status.groupSettled, Status.markLinked, Status.markCancelled, Status.markInitialized}
+use Rattle.status.specs.{Status.markFinished, Status.markMost, Status.has, Status.with, Status.bytesSound, Status.entryOf, Status.put, Status.marking, Status.marksOf}
+use Rattle.status.specs.{declared.StatusCall.StatusCall, declared.StatusCall.the-variants.Initialize, declared.Entry.Entry, declared.Entry.the-variants.At}
+use Rattle.status.specs.{declared.Entry.the-variants.No}
 use Rattle.demand_steps.proofs.Testing.{right}
 use Rattle.clauses.specs.Status.{Place, MarkClauses, Initializes, Cancels}
 use Rattle.clauses.proofs.Splitting.{clash}

@@ -1,23 +1,20 @@
 -- `poll_structure`, clause by clause: of the asking and of the report. Assumes nothing.
 use Prim.Native.Nat.{ℕ, _≤_}
-use mathlib.Core.{Path._≡_, Path.refl, Path.sym, Path.ap, Bool.true, Bool.false, Logic._≢_}
+use mathlib.Core.{Path._≡_, Path.refl, Path.ap, Bool.true, Bool.false, Logic._≢_}
 use borrow.Author.Tests.{not-false}
-use Rattle.choice.proofs.Tests.{test, never}
+use Rattle.choice.proofs.Tests.{test}
 use Rattle.phases.specs.{Phases.hasSuccessor, Phases.boundary, declared.Phase.Phase}
-use Rattle.record.specs.Classes.{Class, refused, Class.refusal, StepAnswer.finished}
-use Rattle.record.specs.{Answers.Told, Fields.top, Live.isLive}
+use Rattle.record.specs.{Classes.Class, Classes.refused, Classes.Class.refusal, Classes.StepAnswer.finished, Answers.Told, Fields.top, Live.isLive}
+use Rattle.record.specs.{declared.Record.Record, declared.Outcome.Outcome, declared.Refusal.the-variants.NotReady}
 use Rattle.record.specs.Live as Tickets
-use Rattle.record.specs.declared.{Record.Record, Outcome.Outcome, Refusal.the-variants.NotReady}
 use Rattle.wholeness.specs.Whole.{whole}
 use Rattle.step_asks.specs.Asks.{askStructureOwn}
 use Rattle.step_reports.specs.{Done.structureDone, Reports.reportStructureOwn}
-use Rattle.calls.specs.Calls.{step, Work.structure, Report.structured, Call.ask, Call.report}
+use Rattle.calls.specs.{Calls.step, Calls.Work.structure, Calls.Report.structured, Calls.Call.ask, Calls.Call.report}
 use Rattle.demand_steps.proofs.{Own.own, Reading.whole-facts, Reading.apart-of, Testing.ranges}
-use Rattle.clauses.specs.Keeping.{SameBatch, Framed}
-use Rattle.clauses.specs.Polls.{unfinished}
-use Rattle.clauses.specs.Structure.{StructureClauses, Advances}
-use Rattle.clauses.proofs.Splitting.{clash, nope, differ, unended, by, outcomes, on-step}
-use Rattle.clauses.proofs.Onward.{calm-staged, no-successor, at-boundary, has-one, succeeds, onwards, stepping-on}
+use Rattle.clauses.specs.{Keeping.SameBatch, Keeping.Framed, Polls.unfinished, Structure.StructureClauses, Structure.Advances}
+use Rattle.clauses.proofs.{Splitting.clash, Splitting.differ, Splitting.unended, Splitting.by, Splitting.outcomes, Splitting.on-step, Onward.calm-staged}
+use Rattle.clauses.proofs.{Onward.no-successor, Onward.at-boundary, Onward.has-one, Onward.succeeds, Onward.onwards, Onward.stepping-on}
 
 -- not the refusal 4
 ready : {c : Class} → refused c ≡ false → c ≢ refusal NotReady

@@ -4,12 +4,11 @@ use mathlib.Core.{Path._≡_, Path.refl, Bool.Bool, Bool.true, Bool.false, List.
 use native.Mathlib.Omega.{arith}
 use Rattle.choice.specs.Pick.{pick, _and_, _or_}
 use Rattle.phases.specs.Phases.{hasSuccessor, successor, boundary}
-use Rattle.record.specs.Fields.{top}
-use Rattle.record.specs.declared.{Record.Record, Live.Live, Live.the-variants.None}
+use Rattle.record.specs.{Fields.top, declared.Record.Record, declared.Live.Live, declared.Live.the-variants.None}
 use Rattle.wholeness.specs.Whole.{whole}
 use Rattle.wholeness.proofs.Facts.{parts}
-use Rattle.demand_steps.proofs.{Facts.Stage, Facts.Calm, Facts.tests, Facts.Stage.flat, Facts.Stage.flatBack, Facts.Stage.before, Facts.Stage.updating}
-use Rattle.demand_steps.proofs.{Facts.Stage.after, Facts.Stage.undoing, Facts.Stage.backing, Facts.Calm.on, Facts.Calm.off, Reading.whole-facts, Calming.room}
+use Rattle.demand_steps.proofs.{Facts.Stage, Facts.Calm, Facts.tests, Facts.Stage.flat, Facts.Stage.flatBack, Facts.Stage.before, Facts.Stage.updating, Facts.Stage.after}
+use Rattle.demand_steps.proofs.{Facts.Stage.undoing, Facts.Stage.backing, Facts.Calm.on, Facts.Calm.off, Reading.whole-facts, Calming.room}
 use Rattle.clauses.specs.Tables.{phases, numberOf, successors, boundaries, Protocol, WellFormed}
 
 pub successor-table : map (λ p. numberOf (successor p)) phases ≡ successors

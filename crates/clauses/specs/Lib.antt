@@ -10,5 +10,4 @@ pub mod Tables
 pub mod Recording
 pub mod Status
 pub mod Successes
-
 pub mod Chains
