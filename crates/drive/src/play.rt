@@ -49,7 +49,31 @@ fn first_record() -> Record {
     opened.state
 }
 
-// A call, with what it is lent.
+// A call, on what it is lent.
+fn call_on(
+    which: Calling,
+    record: Record,
+    numbers: [u64; NUMBERS],
+    l: &mut [u64],
+    a: &mut [u8],
+    c: &mut [u8],
+    r: &mut [u8],
+    x: &mut [u8],
+    t: &mut [u64],
+) -> Stepped {
+    match which {
+        Calling::Open => open(numbers, l, a),
+        Calling::Begin => begin(false, record, numbers, l, c, r, t),
+        Calling::BeginStructural => begin(true, record, numbers, l, c, r, t),
+        Calling::Edit => edit(record, numbers, c, r),
+        Calling::ReportStructure => report_structure(record, numbers, l, c, r),
+        Calling::Ask(which) => ask(which, record, l),
+        Calling::Report(which) => report(which, record, numbers, l, t),
+        Calling::Exchange(which) => exchange(which, record, numbers[0] as usize, l, a, c, r, x),
+    }
+}
+
+// A call, with the parts of what the driver holds that are lent.
 fn call(
     which: Calling,
     record: Record,
@@ -68,16 +92,7 @@ fn call(
     let r = part(r, lent[RECOVERY]);
     let x = part(x, lent[EXCHANGE]);
     let t = part_of_words(t, lent[ACTIONS]);
-    match which {
-        Calling::Open => open(numbers, l, a),
-        Calling::Begin => begin(false, record, numbers, l, c, r, t),
-        Calling::BeginStructural => begin(true, record, numbers, l, c, r, t),
-        Calling::Edit => edit(record, numbers, c, r),
-        Calling::ReportStructure => report_structure(record, numbers, l, c, r),
-        Calling::Ask(which) => ask(which, record, l),
-        Calling::Report(which) => report(which, record, numbers, l, t),
-        Calling::Exchange(which) => exchange(which, record, numbers[0] as usize, l, a, c, r, x),
-    }
+    call_on(which, record, numbers, l, a, c, r, x, t)
 }
 
 // One line, over all that the driver holds: areas a, c, r and x, the table t, the log l, the groups g and the status s.
