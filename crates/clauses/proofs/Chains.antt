@@ -12,11 +12,10 @@ use Rattle.wholeness.specs.Whole.{complete}
 use Rattle.step_begins.specs.Opening.{openStep}
 use Rattle.calls.specs.{Calls.step, Calls.Call.commit, Calls.Call.recover}
 use Rattle.demand_steps.specs.Watching.{Item, Watch, watch, unwatched}
-use Rattle.demand_steps.proofs.{Facts.Stage, Facts.Stage.flat, Facts.Stage.flatBack, Facts.Stage.before, Facts.Stage.updating, Facts.Stage.after, Facts.Stage.undoing}
-use Rattle.demand_steps.proofs.{Facts.Stage.backing, Facts.tests, Facts.Behind, Facts.byCase, Testing.ranges, Calming.range, Wholeness.whole-test}
+use Rattle.demand_steps.proofs.{Facts.Stage, Facts.tests, Facts.Behind, Facts.byCase, Testing.ranges, Calming.range, Wholeness.whole-test}
+use Rattle.demand_steps.proofs.Facts.Stage.{flat, flatBack, before, updating, after, undoing, backing}
 use Rattle.demand_chains.specs.{Sending.Sent, Sending.afterSent, Sending.heardSent, Plans.planAt, Plans.plannedBack, Plans.backAt, Plans.firsts}
-use Rattle.demand_chains.proofs.{Course.Kind, Course.Kind.updateOnly, Course.Kind.structural, Course.Course, Course.Course.ahead, Course.Course.behind, Chain.Good}
-use Rattle.demand_chains.proofs.{Theorems.good}
+use Rattle.demand_chains.proofs.{Course.Kind, Course.Course, Course.Kind.updateOnly, Course.Kind.structural, Course.Course.ahead, Course.Course.behind, Chain.Good, Theorems.good}
 use Rattle.clauses.specs.{Successes.isUpdate, Successes.successes, Chains.Undone, Ending.CanRecover}
 use Rattle.clauses.proofs.Endings.{commit-clauses, recover-clauses}
 
@@ -73,10 +72,13 @@ module _ (w : Watch) (r : Record) (g : Good w r) where
   -- where a recovery succeeds nothing is left: none was started, or all that was is undone
   undone : {n : ℕ} → CanRecover r n → Follows w r → Undone w
   undone c (ahead v x y p q) = let e = ranges (g .is-whole .stage) in
-      either (c .place) (λ i. let h : 0 ≡ plannedBack (w .structural) (w .started) = omega (tests, c .empty, g .is-whole .size, e .behind .early (omega tests), all-back (w .started) (g .tied .kind) (e .behind) (c .place)) in
+      either (c .place) (λ i.
+      let a = all-back (w .started) (g .tied .kind) (e .behind) (c .place) in
+      let h : 0 ≡ plannedBack (w .structural) (w .started) = omega (tests, c .empty, g .is-whole .size, e .behind .early (omega tests)) in
       q ∙ ap (firsts (backAt (w .started))) h) (λ i. let b = e .turned .behind (omega tests) in absurd (omega tests))
   undone c (behind v u x y) =
-      let h : u ≡ plannedBack (w .structural) (w .started) = omega (arith, c .empty, all-back (w .started) (g .tied .kind) (ranges (g .is-whole .stage) .behind) (c .place)) in
+      let a = all-back (w .started) (g .tied .kind) (ranges (g .is-whole .stage) .behind) (c .place) in
+      let h : u ≡ plannedBack (w .structural) (w .started) = omega (arith, c .empty) in
       y ∙ ap (firsts (backAt (w .started))) h
 
 -- a commit that succeeds finds no rollback granted
