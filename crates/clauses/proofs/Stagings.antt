@@ -57,7 +57,8 @@ module _ (r : Record) (b : Beginning) where
     begin-clauses = record {
       framed = framed decided (still-whole r m w (begin structural b)) (refl, refl);
       c147 = decides decided refl can clear;
-      ok = only (λ t. Begun structural b (t .state)) decided (λ x. search);
+      ok = only (λ t. Begun structural b (t .state)) decided (λ x.
+          record { c148 = refl; c149 = refl; c149-candidate = refl; c149-recovery = refl; c150 = refl; c151 = refl; c152 = refl; c153 = refl });
       c154 = λ i. denied decided refl i .0;
       c157 = λ i. denied decided refl i .1 .1;
     }
