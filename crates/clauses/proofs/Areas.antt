@@ -9,20 +9,19 @@ use Rattle.areas.specs.Areas.{sized, copied}
 use Rattle.batch.specs.Batch.{limit, tableSized, paired, stored}
 use Rattle.batch.proofs.Laws.{stored-identities}
 use Rattle.phases.specs.{declared.Next.Next, declared.Next.the-variants.To, declared.Next.the-variants.Nowhere}
-use Rattle.record.specs.{Classes.refused, Classes.Class.performed, Answers.Told, Leaves.Leaves, Given.beginning, Fields.top, declared.Record.Record}
-use Rattle.record.specs.{declared.Outcome.Outcome, declared.Beginning.Beginning}
+use Rattle.record.specs.{Classes.refused, Classes.Class.performed, Answers.Told, Leaves.Leaves, Given.beginning, Fields.top, declared.Record.Record, declared.Outcome.Outcome}
+use Rattle.record.specs.{declared.Beginning.Beginning}
 use Rattle.wholeness.specs.Whole.{whole}
 use Rattle.log.specs.Log.{sound}
 use Rattle.noting.specs.{Recorded.withLog, Through.leavesThrough}
 use Rattle.step_begins.specs.Beginning.{editOwn}
 use Rattle.step_reports.specs.{Done.onward, Done.advanced, Done.structureDone, Reports.reportStructureOwn}
-use Rattle.calls.specs.{Calls.Report, Calls.Call, Calls.step, Calls.AnyCall.calls, Lending.Stored.structured, Lending.Stored.updated, Lending.Stored.rolledBack}
-use Rattle.calls.specs.{Lending.Lending, Lending.Lending.begin, Lending.Lending.report, Lending.Lending.edit, Lending.callOf, Lending.fits, Lending.moved}
-use Rattle.calls.specs.{Lending.leavesOf}
+use Rattle.calls.specs.{Calls.Report, Calls.Call, Calls.step, Calls.AnyCall.calls, Lending.Stored.structured, Lending.Stored.updated, Lending.Stored.rolledBack, Lending.Lending}
+use Rattle.calls.specs.{Lending.callOf, Lending.fits, Lending.moved, Lending.leavesOf, Lending.Lending.begin, Lending.Lending.report, Lending.Lending.edit}
 use Rattle.demand_steps.proofs.{Own.own, Facts.Whole}
 use Rattle.clauses.specs.{Lending.Stages, Lending.Holds, Lending.SameIdentities, Staging.Begun, Gaps.BeginAnswer, Gaps.Rejects, Recording.unlogged}
-use Rattle.clauses.proofs.{Splitting.by, Splitting.outcomes, Splitting.facts-after, Splitting.on-step, Stagings.begin-answer, Stagings.begin-clauses}
-use Rattle.clauses.proofs.{Lendings.lends, Lendings.payload-copied, Lendings.pairs-copied, Recorder.fit, Recorder.carried-over}
+use Rattle.clauses.proofs.{Splitting.by, Splitting.outcomes, Splitting.facts-after, Splitting.on-step, Stagings.begin-answer, Stagings.begin-clauses, Lendings.lends}
+use Rattle.clauses.proofs.{Lendings.payload-copied, Lendings.pairs-copied, Recorder.fit, Recorder.carried-over}
 
 -- two payloads that were copied with their lengths, which fit, as the record afterwards is whole
 stages : {v : Leaves} (c o new old : List ℕ) (rest : List (List ℕ)) → sized c and sized o ≡ true → Whole (v .told .state) →
@@ -82,8 +81,7 @@ module _ (r : Record) (m : r .revision ≤ top) (w : whole r ≡ true) where
 
     -- C306, C307: through a log
     pub begin-carried-areas : (log : List ℕ) → withLog (sized c and sized o and tableSized t and paired pairs) log .sized ≡ true → sound log ≡ true →
-        leavesThrough r log (begin structural c o t new old pairs) .told .class ≡ performed →
-        Stages new old (unlogged (leavesThrough r log (begin structural c o t new old pairs))) × Holds pairs (unlogged (leavesThrough r log (begin structural c o t new old pairs)))
+        let v = leavesThrough r log (begin structural c o t new old pairs) in v .told .class ≡ performed → Stages new old (unlogged v) × Holds pairs (unlogged v)
     begin-carried-areas log z h e =
         carried-over r log (begin structural c o t new old pairs) refl z h (λ i. never (ap refused (sym i ∙ e)))
         (λ v. v .told .class ≡ performed → Stages new old v × Holds pairs v) (begin-areas (fit _ log z)) e
@@ -103,7 +101,8 @@ module _ (r : Record) (m : r .revision ≤ top) (w : whole r ≡ true) where
     edit-areas = replaced (edit c o new old) refl s refl (on-step r m w (Call.edit (length new) (length old)) Stores
         (by Stores _ (λ e k i. never i) (λ e. by Stores _ (λ d k i. never i) (λ d k i. (refl, refl)))))
 
-    pub report-structure-areas : (k : ℕ) (x : Outcome) → refused (leavesOf r (report (structured c o new old) k x) .told .class) ≡ false → Stages new old (leavesOf r (report (structured c o new old) k x))
+    pub report-structure-areas : (k : ℕ) (x : Outcome) → refused (leavesOf r (report (structured c o new old) k x) .told .class) ≡ false →
+        Stages new old (leavesOf r (report (structured c o new old) k x))
     unfolding own reportStructureOwn structureDone advanced
     report-structure-areas k x =
         replaced (report (structured c o new old) k x) refl s refl (on-step r m w (Call.report (Report.structured (length new) (length old)) k x) Stores
@@ -112,7 +111,8 @@ module _ (r : Record) (m : r .revision ≤ top) (w : whole r ≡ true) where
 
 -- the table that a report is lent, whether it is refused or not
 module _ (r : Record) (t : List ℕ) (k : ℕ) (x : Outcome) (value : ℕ) where
-  identified : {v : Leaves} (i : ℕ) → (refused (v .told .class) ≡ true → v .lent ≡ t ∷ []) → (refused (v .told .class) ≡ false → v .lent ≡ stored i value t ∷ []) → SameIdentities t v
+  identified : {v : Leaves} (i : ℕ) → (refused (v .told .class) ≡ true → v .lent ≡ t ∷ []) →
+      (refused (v .told .class) ≡ false → v .lent ≡ stored i value t ∷ []) → SameIdentities t v
   identified {v} i f g = record { identities = λ j. test (refused (v .told .class)) (λ e. rw (f e)) (λ e. rw (g e) (stored-identities t i value j)) }
 
   pub update-identities : SameIdentities t (leavesOf r (report (updated t value) k x))

@@ -3,19 +3,19 @@
 use Prim.Native.Nat.{ℕ, zero, suc, _+_, _-_, _≤_, _<_, min}
 use mathlib.Core.{Path._≡_, Path.refl, Path.sym, Path._∙_, Path.ap, Bool.Bool, Bool.true, Bool.false, List.List, List.[], List._∷_, List._++_}
 use native.Mathlib.Omega.{arith}
+use lib.Dec.{eqb}
 use borrow.Author.Tests.{lt-ltb, le-ltb, not-true}
-use Rattle.choice.specs.Pick.{pick}
+use Rattle.choice.specs.Pick.{pick, _or_}
 use Rattle.choice.proofs.Tests.{both, either}
 use Rattle.record.specs.{Classes.successful, Classes.Class.performed, Fields.top, declared.Record.Record, declared.Opening.Opening}
 use Rattle.wholeness.specs.Whole.{complete}
 use Rattle.step_begins.specs.Opening.{openStep}
 use Rattle.calls.specs.{Calls.step, Calls.Call.commit, Calls.Call.recover}
 use Rattle.demand_steps.specs.Watching.{Item, Watch, watch, unwatched}
-use Rattle.demand_steps.proofs.{Facts.Stage, Facts.Stage.flat, Facts.Stage.flatBack, Facts.Stage.before, Facts.Stage.updating, Facts.Stage.after, Facts.Stage.undoing}
-use Rattle.demand_steps.proofs.{Facts.Stage.backing, Facts.tests, Facts.byCase, Testing.ranges, Calming.range, Wholeness.whole-test}
-use Rattle.demand_chains.specs.{Sending.Sent, Sending.afterSent, Sending.heardSent, Plans.planAt, Plans.backAt, Plans.firsts}
-use Rattle.demand_chains.proofs.{Course.Kind, Course.Kind.updateOnly, Course.Kind.structural, Course.Course, Course.Course.ahead, Course.Course.behind, Chain.Good}
-use Rattle.demand_chains.proofs.{Theorems.good}
+use Rattle.demand_steps.proofs.{Facts.Stage, Facts.tests, Facts.Behind, Facts.byCase, Testing.ranges, Calming.range, Wholeness.whole-test}
+use Rattle.demand_steps.proofs.Facts.Stage.{flat, flatBack, before, updating, after, undoing, backing}
+use Rattle.demand_chains.specs.{Sending.Sent, Sending.afterSent, Sending.heardSent, Plans.planAt, Plans.plannedBack, Plans.backAt, Plans.firsts}
+use Rattle.demand_chains.proofs.{Course.Kind, Course.Course, Course.Kind.updateOnly, Course.Kind.structural, Course.Course.ahead, Course.Course.behind, Chain.Good, Theorems.good}
 use Rattle.clauses.specs.{Successes.isUpdate, Successes.successes, Chains.Undone, Ending.CanRecover}
 use Rattle.clauses.proofs.Endings.{commit-clauses, recover-clauses}
 
@@ -52,6 +52,11 @@ row : {p f b n a k : ℕ} {v s : Bool} → Stage p f b n a k v → Kind s p → 
 row {p} {f} {b} {n} {a} x (updateOnly e y) h o i = let z = ranges x .ahead .start y in rw e (flat-plan n (f + a) ∙ omega arith)
 row {p} {f} {b} {n} {a} x (structural e y) h o i = rw e (structural-plan n (f + a) ∙ counted x y h o i)
 
+-- with nothing left, phase 0 is the end of an update-only transaction, and 13 that of a structural one, after four phases back
+all-back : {s : Bool} {p b : ℕ} (k : ℕ) → Kind s p → Behind p b → eqb p 0 or eqb p 13 ≡ true → k + b ≡ plannedBack s k
+all-back k (updateOnly s z) d e = rw s (omega (arith, d .early (omega arith)))
+all-back k (structural s z) d e = rw s (either e (λ i. absurd (omega tests)) (λ i. omega (tests, d .late (omega tests))))
+
 abbrev Follows : Watch → Record → Type 0
 Follows w r = Course (w .structural) (w .size) (w .started) (w .done) (w .undone) (r .forward) (r .back) (r .entries) (r .applied) (r .attempted) (r .restoring)
 
@@ -64,16 +69,17 @@ module _ (w : Watch) (r : Record) (g : Good w r) where
   pub applied-counts : w .turned ≡ false → successes (w .done) ≡ r .applied
   applied-counts = counts (g .tied .course)
 
-  -- where a recovery succeeds nothing is left: in phase 0 with none started or all undone, and in phase 13 after the four phases too
-  undone : {n : ℕ} → CanRecover r n → Follows w r → Kind (w .structural) (r .phase .number) → Undone w
-  undone c (ahead v x y p q) (updateOnly s z) = let h : w .started ≡ 0 = omega (arith, c .empty, g .is-whole .size) in rw (s, h) q
-  undone c (ahead v x y p q) (structural s z) =
-      either (c .place) (λ i. absurd (omega tests)) (λ i. let b = ranges (g .is-whole .stage) .turned .behind (omega tests) in absurd (omega tests))
-  undone c (behind v u x y) (updateOnly s z) =
-      let h : u ≡ w .started = omega (arith, c .empty, ranges (g .is-whole .stage) .behind .early (omega arith)) in rw s (y ∙ ap (firsts (backAt (w .started))) h)
-  undone c (behind v u x y) (structural s z) =
-      either (c .place) (λ i. absurd (omega tests)) (λ i.
-      let h : u ≡ w .started + 4 = omega (tests, c .empty, ranges (g .is-whole .stage) .behind .late (omega tests)) in rw s (y ∙ ap (firsts (backAt (w .started))) h))
+  -- where a recovery succeeds nothing is left: none was started, or all that was is undone
+  undone : {n : ℕ} → CanRecover r n → Follows w r → Undone w
+  undone c (ahead v x y p q) = let e = ranges (g .is-whole .stage) in
+      either (c .place) (λ i.
+      let a = all-back (w .started) (g .tied .kind) (e .behind) (c .place) in
+      let h : 0 ≡ plannedBack (w .structural) (w .started) = omega (tests, c .empty, g .is-whole .size, e .behind .early (omega tests)) in
+      q ∙ ap (firsts (backAt (w .started))) h) (λ i. let b = e .turned .behind (omega tests) in absurd (omega tests))
+  undone c (behind v u x y) =
+      let a = all-back (w .started) (g .tied .kind) (ranges (g .is-whole .stage) .behind) (c .place) in
+      let h : u ≡ plannedBack (w .structural) (w .started) = omega (arith, c .empty) in
+      y ∙ ap (firsts (backAt (w .started))) h
 
 -- a commit that succeeds finds no rollback granted
 not-restoring : (r : Record) → complete r ≡ true → r .restoring ≡ false
@@ -98,4 +104,4 @@ module _ (sized : Bool) (given : Opening) (l : ℕ) (m : given .revision ≤ top
   pub snapshot-undone : (n : ℕ) → step now (recover n) .class ≡ performed → Undone seen
   snapshot-undone n h =
       let g = good sized given l m o ss in
-      undone seen now g (recover-clauses now (range (g .is-whole .calm)) (whole-test (g .is-whole)) n .c204 .0 h) (g .tied .course) (g .tied .kind)
+      undone seen now g (recover-clauses now (range (g .is-whole .calm)) (whole-test (g .is-whole)) n .c204 .0 h) (g .tied .course)

@@ -4,12 +4,12 @@ use mathlib.Core.{Path._≡_, Bool.true}
 use Rattle.record.specs.{Fields.top, declared.Record.Record}
 use Rattle.wholeness.specs.Whole.{whole}
 use Rattle.calls.specs.{Calls.Call, Calls.step, Calls.Work.structure, Calls.Work.update, Calls.Work.rollback, Calls.Report.structured, Calls.Report.updated}
-use Rattle.calls.specs.{Calls.Report.rolledBack, Calls.Call.begin, Calls.Call.ask, Calls.Call.report, Calls.Call.edit, Calls.Call.commit, Calls.Call.recover}
-use Rattle.calls.specs.{Calls.Call.recoverRetained, Calls.Call.refresh, Calls.Call.stamp, Calls.Call.check}
+use Rattle.calls.specs.{Calls.Report.rolledBack}
+use Rattle.calls.specs.Calls.Call.{begin, ask, report, edit, commit, recover, recoverRetained, refresh, stamp, check}
 use Rattle.clauses.specs.Clauses.{Clauses}
-use Rattle.clauses.proofs.{Polls.update-asked, Polls.update-reported, Polls.rollback-asked, Polls.rollback-reported, Structures.structure-asked}
-use Rattle.clauses.proofs.{Structures.structure-reported, Stagings.begin-clauses, Stagings.edit-clauses, Endings.commit-clauses, Endings.recover-clauses}
-use Rattle.clauses.proofs.{Endings.recover-retained-clauses, Refreshes.refresh-clauses, Refreshes.stamp-clauses, Refreshes.check-clauses}
+use Rattle.clauses.proofs.{Structures.structure-asked, Structures.structure-reported, Stagings.begin-clauses, Stagings.edit-clauses, Endings.commit-clauses}
+use Rattle.clauses.proofs.{Endings.recover-clauses, Endings.recover-retained-clauses, Refreshes.refresh-clauses, Refreshes.stamp-clauses, Refreshes.check-clauses}
+use Rattle.clauses.proofs.Polls.{update-asked, update-reported, rollback-asked, rollback-reported}
 
 pub clauses : (r : Record) → r .revision ≤ top → whole r ≡ true → (c : Call) → Clauses r c (step r c)
 clauses r m w (begin structural b) = begin-clauses r b m w structural

@@ -15,10 +15,10 @@ use Rattle.wholeness.proofs.Passing.{Clear}
 use Rattle.step_ends.specs.Ending.{idleAt, commitBars, commitOwn, unrestored, recoverBars, recoveredTo, recoverOwn, recoverRetainedOwn}
 use Rattle.calls.specs.{Calls.Call, Calls.step, Calls.Call.commit, Calls.Call.recover, Calls.Call.recoverRetained}
 use Rattle.demand_steps.proofs.{Own.own, Reading.whole-facts, Testing.ranges, Reopening.after-commit-opens}
-use Rattle.clauses.specs.{Keeping.gained, Ending.CanCommit, Ending.Committed, Ending.CommitClauses, Ending.CanRecover, Ending.Recovered, Ending.RecoverClauses}
-use Rattle.clauses.specs.{Gaps.RecoverAnswer}
-use Rattle.clauses.proofs.{Splitting.nor, Splitting.Each, Splitting.Decided, Splitting.Decided.refuses, Splitting.Decided.does, Splitting.decides, Splitting.only}
-use Rattle.clauses.proofs.{Splitting.denied, Splitting.keeps, Splitting.still-whole, Splitting.settled}
+use Rattle.clauses.specs.{Keeping.gained, Gaps.RecoverAnswer}
+use Rattle.clauses.specs.Ending.{CanCommit, Committed, CommitClauses, CanRecover, Recovered, RecoverClauses}
+use Rattle.clauses.proofs.Splitting.{nor, Each, Decided, decides, only, denied, keeps, still-whole, settled}
+use Rattle.clauses.proofs.Splitting.Decided.{refuses, does}
 
 -- 0 or q, and not 0
 the-other : (p q : ℕ) → eqb p 0 or eqb p q ≡ true → p ≢ 0 → p ≡ q

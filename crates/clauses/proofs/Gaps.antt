@@ -13,14 +13,14 @@ use Rattle.record.specs.{declared.Outcome.Outcome, declared.Outcome.the-variant
 use Rattle.record.specs.Live as Tickets
 use Rattle.wholeness.specs.Whole.{whole}
 use Rattle.step_asks.specs.Asks.{turned, askStructureOwn, askUpdateOwn, askRollbackOwn}
-use Rattle.step_reports.specs.{Done.leaving, Done.structureDone, Done.updateDone, Done.rollbackDone, Reports.reported, Reports.reportStructureOwn}
-use Rattle.step_reports.specs.{Reports.reportUpdateOwn, Reports.reportRollbackOwn}
+use Rattle.step_reports.specs.Done.{leaving, structureDone, updateDone, rollbackDone}
+use Rattle.step_reports.specs.Reports.{reported, reportStructureOwn, reportUpdateOwn, reportRollbackOwn}
 use Rattle.calls.specs.{Calls.step, Calls.Work.structure, Calls.Work.update, Calls.Work.rollback, Calls.Report.structured, Calls.Report.updated, Calls.Report.rolledBack}
 use Rattle.calls.specs.{Calls.Call.ask, Calls.Call.report}
 use Rattle.demand_steps.proofs.{Own.own, Moves.choice, Moves.turn}
 use Rattle.clauses.specs.Gaps.{Succeeds, StructureAsked, AtFinished, RollbackAsked}
-use Rattle.clauses.proofs.{Splitting.clash, Splitting.fitted, Splitting.differ, Splitting.unended, Splitting.by, Splitting.outcomes, Splitting.on-step}
-use Rattle.clauses.proofs.{Onward.no-successor, Onward.ended, Onward.exclusive, Onward.onwards}
+use Rattle.clauses.proofs.Splitting.{clash, fitted, differ, unended, by, outcomes, on-step}
+use Rattle.clauses.proofs.Onward.{no-successor, ended, exclusive, onwards}
 
 module _ (r : Record) (m : r .revision ≤ top) (w : whole r ≡ true) where
   -- a Done report with the live ticket, whose payloads fit
@@ -31,36 +31,16 @@ module _ (r : Record) (m : r .revision ≤ top) (w : whole r ≡ true) where
       by (Succeeds r) _ (λ i k. record { onward = onwards r m w t l c o; finished = λ j. refl; more = clash _ i })
       (λ i k. record { onward = onwards r m w t l c o; finished = λ j. clash _ j i; more = λ j. refl }))))
 
-  pub structure-answers : StructureAsked r (step r (ask structure))
+  abbrev Asked : Told → Type 0
+  Asked = StructureAsked r
+
+  pub structure-answers : Asked (step r (ask structure))
   unfolding own askStructureOwn
-  structure-answers = on-step r m w (ask structure) (StructureAsked r)
-      (by (StructureAsked r) _ (λ e k. record {
-        notReady = λ i. refl;
-        finished = exclusive (r .phase .number) e;
-        ticket = no-successor _ e;
-        worn = no-successor _ e;
-        staged = search;
-      }) (λ e₁.
-      by (StructureAsked r) _ (λ e k. record {
-        notReady = λ i. clash _ i e₁;
-        finished = λ i. refl;
-        ticket = ended (r .phase .number) e;
-        worn = ended (r .phase .number) e;
-        staged = search;
-      }) (λ e₂.
-      by (StructureAsked r) _ (λ e k. record {
-        notReady = λ i. clash _ i e₁;
-        finished = λ i. clash _ i e₂;
-        ticket = λ i s. absurd (s (eqb-true _ _ e));
-        worn = λ i s. refl;
-        staged = search;
-      }) (λ e₃ k. record {
-        notReady = λ i. clash _ i e₁;
-        finished = λ i. clash _ i e₂;
-        ticket = λ i s. (refl, refl);
-        worn = λ i s. absurd (eqb-ne _ _ e₃ s);
-        staged = search;
-      }))))
+  structure-answers = on-step r m w (ask structure) Asked (by Asked _ (λ e k.
+      record { notReady = λ i. refl; finished = exclusive (r .phase .number) e; ticket = no-successor _ e; worn = no-successor _ e; staged = search }) (λ e₁. by Asked _ (λ e k.
+      record { notReady = λ i. clash _ i e₁; finished = λ i. refl; ticket = ended (r .phase .number) e; worn = ended (r .phase .number) e; staged = search }) (λ e₂. by Asked _ (λ e k.
+      record { notReady = λ i. clash _ i e₁; finished = λ i. clash _ i e₂; ticket = λ i s. absurd (s (eqb-true _ _ e)); worn = λ i s. refl; staged = search }) (λ e₃ k.
+      record { notReady = λ i. clash _ i e₁; finished = λ i. clash _ i e₂; ticket = λ i s. (refl, refl); worn = λ i s. absurd (eqb-ne _ _ e₃ s); staged = search }))))
 
   -- a phase that a test picks, at the answer Finished
   turns : {from to : ℕ} {t : Told} → t .class ≡ stepping finished → t .state .phase .number ≡ pick (eqb (r .phase .number) from) to (r .phase .number) → AtFinished from to r t

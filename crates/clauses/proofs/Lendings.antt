@@ -11,9 +11,8 @@ use Rattle.batch.specs.Batch.{tableWords, tableSized, pairsIn}
 use Rattle.record.specs.{Answers.Told, Answers.refuse, declared.Record.Record, declared.Refusal.the-variants.BadArea}
 use Rattle.wholeness.specs.Gates.{gateOf, gated}
 use Rattle.calls.specs.{Calls.Call, Calls.stepOf, Calls.AnyCall.calls, Calls.Work.structure, Calls.Work.update, Calls.Work.rollback, Lending.Stored.structured}
-use Rattle.calls.specs.{Lending.Stored.updated, Lending.Stored.rolledBack, Lending.Lending, Lending.callOf, Lending.fits, Lending.Lending.openAt, Lending.Lending.begin}
-use Rattle.calls.specs.{Lending.Lending.ask, Lending.Lending.report, Lending.Lending.edit, Lending.Lending.commit, Lending.Lending.recover}
-use Rattle.calls.specs.{Lending.Lending.recoverRetained, Lending.Lending.refresh, Lending.Lending.stamp, Lending.Lending.check}
+use Rattle.calls.specs.{Lending.Stored.updated, Lending.Stored.rolledBack, Lending.Lending, Lending.callOf, Lending.fits}
+use Rattle.calls.specs.Lending.Lending.{openAt, begin, ask, report, edit, commit, recover, recoverRetained, refresh, stamp, check}
 use Rattle.clauses.specs.Lending.{payload, unrecorded, Lends, ReadBack}
 
 module _ (r : Record) where

@@ -11,9 +11,8 @@ use Rattle.record.specs.{Fields.top, Fields.spent, Fields.withPlace, Live.isLiv
 use Rattle.record.specs.Live as Tickets
 use Rattle.wholeness.specs.Whole.{whole}
 use Rattle.step_reports.specs.{Done.advanced, Reports.storing}
-use Rattle.demand_steps.proofs.{Leaf.Apart, Facts.Calm, Facts.Calm.on, Facts.Calm.off, Facts.tests, Facts.byCase, Reading.whole-facts, Reading.apart-of, Testing.ranges}
-use Rattle.demand_steps.proofs.{Testing.right, Wholeness.left, Wholeness.successor-test, Tickets.onStructure, Moves.goes-up, Moves.goes-down, Moves.goes-up}
-use Rattle.demand_steps.proofs.{Moves.goes-down}
+use Rattle.demand_steps.proofs.{Leaf.Apart, Facts.Calm, Facts.tests, Facts.byCase, Facts.Calm.on, Facts.Calm.off, Reading.whole-facts, Reading.apart-of, Testing.ranges}
+use Rattle.demand_steps.proofs.{Testing.right, Wholeness.left, Wholeness.successor-test, Tickets.onStructure, Moves.goes-up, Moves.goes-down, Moves.goes-up, Moves.goes-down}
 use Rattle.clauses.specs.Structure.{Stepping, Advances, Stepping, Advances}
 use Rattle.clauses.proofs.Splitting.{nope, nope}
 

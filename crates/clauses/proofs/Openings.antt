@@ -52,7 +52,7 @@ module _ (given : Opening) (m : given .revision ≤ top) where
   moved t lent after h = sym (no _ (ap refused h) refl)
 
   module _ (a payload : List ℕ) where
-    pub open-areas : leavesOf unopened (Lending.openAt given a payload) .told .class ≡ performed → Opens payload (leavesOf unopened (Lending.openAt given a payload))
+    pub open-areas : let v = leavesOf unopened (Lending.openAt given a payload) in v .told .class ≡ performed → Opens payload v
     open-areas h =
         let x = open-clauses (sized a) (length payload) in
         let y = x .fits .0 h in
@@ -64,7 +64,7 @@ module _ (given : Opening) (m : given .revision ≤ top) where
     zeros (suc n) zero = refl
     zeros (suc n) (suc i) = zeros n i
 
-    pub open-recorded : (log : List ℕ) → leavesThrough unopened log (Lending.openAt given a payload) .told .class ≡ performed → OpenRecorded given payload (leavesThrough unopened log (Lending.openAt given a payload))
+    pub open-recorded : (log : List ℕ) → let v = leavesThrough unopened log (Lending.openAt given a payload) in v .told .class ≡ performed → OpenRecorded given payload v
     unfolding leavesThrough withLog
     open-recorded log h =
         let s = withLog (sized a) log .sized in

@@ -6,8 +6,8 @@ use lib.Dec.{eqb}
 use borrow.Author.Tests.{ne-eqb, leb-true, not-true, not-false}
 use Rattle.choice.specs.Pick.{_or_}
 use Rattle.choice.proofs.Tests.{never, either, neither, join, no-left, no-right, tests}
-use Rattle.record.specs.{Classes.taken, Classes.Class.stepping, Classes.StepAnswer.finished, Answers.Told, Fields.top, Fields.adopting, declared.Record.Record}
-use Rattle.record.specs.{declared.Outcome.Outcome}
+use Rattle.record.specs.{Classes.taken, Classes.Class.refusal, Classes.Class.stepping, Classes.StepAnswer.finished, Answers.Told, Fields.top, Fields.adopting}
+use Rattle.record.specs.{declared.Record.Record, declared.Outcome.Outcome, declared.Refusal.the-variants.Recovering}
 use Rattle.wholeness.specs.Whole.{whole, complete}
 use Rattle.step_asks.specs.Asks.{askUpdateOwn, turned, askRollbackOwn}
 use Rattle.step_reports.specs.{Done.updateDone, Done.leaving, Done.rollbackDone, Reports.reportUpdateOwn, Reports.reportRollbackOwn}
@@ -29,18 +29,16 @@ module _ (r : Record) (m : r .revision ≤ top) (w : whole r ≡ true) where
       (t .class ≡ stepping finished → complete (t .state) ≡ true) → (unfinished (t .class) ≡ true → complete (t .state) ≡ false) → Updates t
   placed h x f g = record { c76 = astray _ h; c77 = λ y z i. astray _ h y z; framed = x .0; c92 = x .1; c93 = x .2; c95 = f; c96 = λ i. g }
 
+  -- a refusal
+  refuses : {t : Told} → Framed r t × SameStaged r (t .state) → t .state ≡ r → taken (t .class) ≡ false → (gained (t .class) ≡ false → t .class ≡ refusal Recovering) →
+      (eqb (r .phase .number) 0 or eqb (r .phase .number) 5 ≡ true → unfinished (t .class) ≡ true → complete (t .state) ≡ false) → Updates t
+  refuses x s n g f =
+      record { c76 = λ y z. s; c77 = λ y z. g; framed = x .0; c92 = x .1; c93 = ap (λ (q : Record). q .entries) s; c95 = unended n; c96 = f }
+
   pub update-asked : Updates (step r (ask update))
   unfolding own askUpdateOwn adopting complete
   update-asked = on-step r m w (ask update) Updates
-      (by Updates _ (λ e k. record {
-        c76 = λ y z. refl;
-        c77 = λ y z g. refl;
-        framed = search;
-        c92 = search;
-        c93 = refl;
-        c95 = unended refl;
-        c96 = λ i j. either e (λ n. clash _ i (not-true _ n)) (λ n. no-left _ (ap not n));
-      }) (λ e₁. let x = neither e₁ in let h = not-false _ (x .0) in
+      (by Updates _ (λ e k. refuses (search) refl refl (λ g. refl) (λ i j. either e (λ n. clash _ i (not-true _ n)) (λ n. no-left _ (ap not n)))) (λ e₁. let x = neither e₁ in let h = not-false _ (x .0) in
       by Updates _ (λ e k. placed h (search) (λ i. join (ap not (x .1)) e) nope) (λ e₂.
       by Updates _ (λ e k. placed h (search) (unended refl) nope)
       (λ e₃ k. placed h (search) (unended refl) (λ i. no-right _ e₂)))))
@@ -49,15 +47,7 @@ module _ (r : Record) (m : r .revision ≤ top) (w : whole r ≡ true) where
     pub update-reported : Updates (step r (report updated t x))
     unfolding own reportUpdateOwn updateDone adopting complete
     update-reported = on-step r m w (report updated t x) Updates
-        (by Updates _ (λ e k. record {
-          c76 = λ y z. refl;
-          c77 = λ y z. never;
-          framed = search;
-          c92 = search;
-          c93 = refl;
-          c95 = unended refl;
-          c96 = λ i. nope;
-        }) (λ e. let v = whole-facts r m w in let y = onUpdate v (not-false _ e) in let h = updates-test _ (y .place) in
+        (by Updates _ (λ e k. refuses (search) refl refl never (λ i. nope)) (λ e. let v = whole-facts r m w in let y = onUpdate v (not-false _ e) in let h = updates-test _ (y .place) in
         outcomes Updates x
         (λ a vs n k. placed h (search) (unended n) (λ i. no-right _ (ne-eqb _ _ (λ (j : r .applied ≡ r .entries). omega (arith, v .size, y .tried)))))
         (by Updates _ (λ d k. placed h (search) (λ i. join (ap not (y .ahead)) d) nope) (λ d k. placed h (search) (differ refl) nope))))
@@ -67,25 +57,13 @@ module _ (r : Record) (m : r .revision ≤ top) (w : whole r ≡ true) where
 
   restores : {t : Told} → Framed r t × SameStaged r (t .state) → t .state .restoring ≡ true → (t .class ≡ stepping finished → t .state .entries ≡ 0) →
       (t .class ≢ stepping finished → 0 < t .state .entries) → Rollbacks t
-  restores x v f g = record {
-    framed = x .0;
-    c103 = x .1;
-    c104 = λ i. v;
-    c105 = f;
-    c106 = λ u. g (λ i. never (sym u ∙ ap unfinished i));
-    c100-more = λ i. g (λ j. differ refl (sym i ∙ j));
-  }
+  restores x v f g =
+      record { framed = x .0; c103 = x .1; c104 = λ i. v; c105 = f; c106 = λ u. g (λ i. never (sym u ∙ ap unfinished i)); c100-more = λ i. g (λ j. differ refl (sym i ∙ j)) }
 
   -- a refusal that a clause gains
   stays : {t : Told} → Framed r t × SameStaged r (t .state) → gained (t .class) ≡ true → unfinished (t .class) ≡ false → taken (t .class) ≡ false → Rollbacks t
-  stays x g u n = record {
-    framed = x .0;
-    c103 = x .1;
-    c104 = λ i. clash _ g i;
-    c105 = unended n;
-    c106 = λ i. clash _ i u;
-    c100-more = λ i. clash _ (ap taken i) n;
-  }
+  stays x g u n =
+      record { framed = x .0; c103 = x .1; c104 = clash _ g; c105 = unended n; c106 = λ i. clash _ i u; c100-more = λ i. clash _ (ap taken i) n }
 
   pub rollback-asked : Rollbacks (step r (ask rollback))
   unfolding own askRollbackOwn turned
@@ -101,4 +79,5 @@ module _ (r : Record) (m : r .revision ≤ top) (w : whole r ≡ true) where
     rollback-reported = on-step r m w (report rolledBack t x) Rollbacks
         (by Rollbacks _ (λ e k. stays (search) refl refl refl) (λ e. let y = onRollback (whole-facts r m w) (not-false _ e) in
         outcomes Rollbacks x (λ a vs n k. restores (search) (y .behind) (unended n) (λ i. y .some))
-        (by Rollbacks _ (λ d k. restores (search) (y .behind) (λ i. omega tests) (λ n. absurd (n refl))) (λ d k. restores (search) (y .behind) (differ refl) (λ n. omega tests)))))
+        (by Rollbacks _ (λ d k. restores (search) (y .behind) (λ i. omega tests) (λ n. absurd (n refl)))
+        (λ d k. restores (search) (y .behind) (differ refl) (λ n. omega tests)))))

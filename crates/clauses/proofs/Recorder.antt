@@ -5,19 +5,19 @@ use Prim.Native.Nat.{ℕ, _≤_}
 use mathlib.Core.{Path._≡_, Path.refl, Path.sym, Path._∙_, Path.ap, Path.subst, Bool.Bool, Bool.true, Bool.false, Bool.not, List.List, List._∷_, Logic._≢_}
 use borrow.Author.Tests.{not-true, not-false}
 use Rattle.choice.specs.Pick.{pick, _and_, _or_}
-use Rattle.choice.proofs.{Picks.yes, Picks.no, Picks.picked, Tests.both, Tests.never}
-use Rattle.record.specs.{Classes.Class, Classes.refused, Classes.entered, Classes.callWritten, Classes.Class.performed, Classes.Class.refusal, Classes.Class.stepping}
-use Rattle.record.specs.{Answers.Told, Answers.refuse, Leaves.Leaves, Leaves.leaves, Leaves.moving, Fields.top, declared.Record.Record, declared.Refusal.Refusal}
+use Rattle.choice.proofs.{Picks.yes, Picks.no, Picks.picked, Picks.each, Tests.both, Tests.never}
+use Rattle.record.specs.{Classes.Class, Classes.refused, Classes.entered, Classes.callWritten, Classes.Class.performed, Classes.Class.refusal, Classes.Class.stepping, Answers.Told}
+use Rattle.record.specs.{Answers.refuse, Leaves.Leaves, Leaves.leaves, Leaves.moving, Fields.top, declared.Record.Record, declared.Refusal.Refusal}
 use Rattle.record.specs.{declared.Refusal.the-variants.BadArea, declared.Refusal.the-variants.Damaged, declared.Refusal.the-variants.LogFull}
 use Rattle.wholeness.specs.{Whole.whole, Gates.gateOf, Gates.gated}
 use Rattle.log.specs.Log.{sound, appended}
 use Rattle.noting.specs.{Recorded.withLog, Recorded.recorded, Through.inner, Through.logs, Through.leavesThrough}
-use Rattle.calls.specs.{Calls.Call, Calls.AnyCall, Calls.stepOf, Calls.AnyCall.calls, Kinds.kindOf, Kinds.writtenAs, Lending.Lending, Lending.callOf, Lending.fits}
-use Rattle.calls.specs.{Lending.lent, Lending.moved}
+use Rattle.calls.specs.{Calls.Call, Calls.AnyCall, Calls.stepOf, Calls.AnyCall.calls, Kinds.kindOf, Kinds.writtenAs}
+use Rattle.calls.specs.Lending.{Lending, callOf, fits, lent, moved}
 use Rattle.demand_refusals.{specs.Refusals.returned, proofs.ExactRefusals.refusal-returns}
 use Rattle.demand_steps.proofs.Testing.{not-yes}
 use Rattle.clauses.specs.{Clauses.Clauses, Lending.Lends, Lending.unrecorded, Recording.unlogged, Recording.Recorded, Recording.Through, Recording.Carries}
-use Rattle.clauses.proofs.{Splitting.clash, Lendings.Gates, Lendings.Gates.behind, Lendings.Gates.alone, Lendings.gates, Lendings.lends, Clauses.clauses}
+use Rattle.clauses.proofs.{Splitting.clash, Lendings.Gates, Lendings.gates, Lendings.lends, Lendings.Gates.behind, Lendings.Gates.alone, Clauses.clauses}
 
 -- any step that a refusal leaves as it was
 records : (written : Class → Bool) (kind : ℕ) (t : Told) (r : Record) (log : List ℕ) (lent moved : List (List ℕ)) → (refused (t .class) ≡ true → t .state ≡ r) →
@@ -54,10 +54,10 @@ refused-unwritten performed e = never (sym e)
 refused-unwritten (refusal why) e = refl
 refused-unwritten (stepping s) e = refl
 
--- neither 6 nor 7 is written
-unwritten : (kind : ℕ) → (writtenAs kind (refusal BadArea) ≡ false) × (writtenAs kind (refusal Damaged) ≡ false)
-unfolding writtenAs entered _or_
-unwritten kind = (picked (λ b. b ≡ false) _ (λ e. refl) (λ e. picked (λ b. b ≡ false) _ (λ i. refl) (λ i. refl)), picked (λ b. b ≡ false) _ (λ e. refl) (λ e. picked (λ b. b ≡ false) _ (λ i. refl) (λ i. refl)))
+-- nor is a refusal but 4 and 5 in any
+unwritten : (kind : ℕ) (why : Refusal) → entered why ≡ false → writtenAs kind (refusal why) ≡ false
+unfolding writtenAs
+unwritten kind why e = each (λ (b : Bool). b ≡ false) _ refl (each (λ (b : Bool). b ≡ false) _ e refl)
 
 -- what joins the log has the right sizes itself
 pub fit : (fits : Bool) (log : List ℕ) → withLog fits log .sized ≡ true → fits ≡ true
@@ -74,9 +74,9 @@ module _ (r : Record) (log : List ℕ) (c : Lending true) {d : Call} (e : callOf
   leaves-by {t} q = ap (λ (u : Told). logs (callOf c) u r log (lent c) (moved r c)) q ∙ ap (λ (a : AnyCall). logs a t r log (lent c) (moved r c)) e
 
   -- a refusal that is not written leaves all as it was
-  silent : (why : Refusal) → writtenAs (kindOf d) (refusal why) ≡ false → through (refuse why r) ≡ leaves (refuse why r) (log ∷ lent c)
+  silent : (why : Refusal) → entered why ≡ false → through (refuse why r) ≡ leaves (refuse why r) (log ∷ lent c)
   unfolding recorded
-  silent why n = sym (yes _ (not-yes _ n) (ap (λ (l : List (List ℕ)). leaves (refuse why r) (log ∷ l)) (yes _ refl refl)))
+  silent why n = sym (yes _ (not-yes _ (unwritten (kindOf d) why n)) (ap (λ (l : List (List ℕ)). leaves (refuse why r) (log ∷ l)) (yes _ refl refl)))
 
   -- the two tests of the gate
   bad-size : Gates r c → withLog (fits c) log .sized ≡ false → inner r log c ≡ refuse BadArea r
@@ -98,10 +98,11 @@ module _ (r : Record) (log : List ℕ) (c : Lending true) {d : Call} (e : callOf
   at-size z h = ap (λ (b : Bool). stepOf (withLog (fits c) log .sized) b r (callOf c)) h ∙ ap (λ (a : Bool). stepOf a true r (callOf c)) (z ∙ sym (fit (fits c) log z))
 
   pub recorded-clauses : Through r log c d (leavesThrough r log c)
+  unfolding entered _or_
   recorded-clauses = record {
-    bad = λ z. leaves-by (bad-size (gates r c e) z) ∙ silent BadArea (unwritten (kindOf d) .0);
-    damaged = λ z f. leaves-by (bad-head (gates r c e) z f) ∙ silent Damaged (unwritten (kindOf d) .1);
-    ready = λ z h. subst (Recorded (writtenAs (kindOf d)) (kindOf d) r log (lent c) (unrecorded r c)) (sym (leaves-by (at-size z h))) (records _ _ _ r log (lent c) (moved r c) equal);
+    bad = λ z. leaves-by (bad-size (gates r c e) z) ∙ silent BadArea refl;
+    damaged = λ z f. leaves-by (bad-head (gates r c e) z f) ∙ silent Damaged refl;
+    ready = λ z h. subst (Recorded _ _ r log (lent c) (unrecorded r c)) (sym (leaves-by (at-size z h))) (records _ _ _ r log (lent c) (moved r c) equal);
   }
 
   module _ (z : withLog (fits c) log .sized ≡ true) (h : sound log ≡ true) (n : leavesThrough r log c .told .class ≢ refusal LogFull) where

@@ -7,8 +7,7 @@ use borrow.Author.Tests.{eq-eqb, eqb-true, ltb-false, le-ltb, not-true}
 use Rattle.choice.specs.Pick.{_or_}
 use Rattle.choice.proofs.Tests.{never, both, join}
 use Rattle.areas.specs.Areas.{long}
-use Rattle.record.specs.{Classes.refused, Answers.answer, Fields.top, Fields.withLengths, declared.Record.Record, declared.Answer.the-variants.Done}
-use Rattle.record.specs.{declared.Was.the-variants.One}
+use Rattle.record.specs.{Classes.refused, Answers.answer, Fields.top, Fields.withLengths, declared.Record.Record, declared.Answer.the-variants.Done, declared.Was.the-variants.One}
 use Rattle.wholeness.specs.Whole.{whole}
 use Rattle.step_ends.specs.Ending.{refreshBars, refreshOwn}
 use Rattle.step_stamps.specs.{Stamping.passes, declared.SaveStamp.SaveStamp}

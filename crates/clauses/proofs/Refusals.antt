@@ -10,8 +10,8 @@ use Rattle.record.specs.{declared.Refusal.the-variants.Damaged}
 use Rattle.record.specs.Live as Tickets
 use Rattle.record.specs.declared.Outcome.the-variants as O
 use Rattle.wholeness.specs.{Whole.whole, Gates.barring, Gates.longPayloads}
-use Rattle.step_reports.specs.{Done.structureDone, Done.updateDone, Done.rollbackDone, Reports.storing, Reports.stale, Reports.reported, Reports.reportStructureOwn}
-use Rattle.step_reports.specs.{Reports.reportUpdateOwn, Reports.reportRollbackOwn}
+use Rattle.step_reports.specs.Done.{structureDone, updateDone, rollbackDone}
+use Rattle.step_reports.specs.Reports.{storing, stale, reported, reportStructureOwn, reportUpdateOwn, reportRollbackOwn}
 use Rattle.calls.specs.{Calls.Call, Calls.step, Calls.AnyCall.calls, Calls.Report.structured, Calls.Report.updated, Calls.Report.rolledBack, Calls.Call.report}
 use Rattle.demand_refusals.specs.Refusals.{returned}
 use Rattle.demand_refusals.proofs.ExactRefusals.{refusal-returns}
@@ -49,7 +49,8 @@ module _ (r : Record) where
     rollback-outcomes = reports Tickets.rollback ticket (spent r) (rollbackDone (spent r)) (λ u. u) (λ u. refl) _ (λ x. whole-step r (report rolledBack ticket x) w)
 
     -- payloads that fit are not refused 8
-    pub structure-outcomes : (c o : ℕ) → c ≤ areaSize → o ≤ areaSize → ReportAnswers Tickets.structure ticket r (spent (storing c o r)) (λ x. step r (report (structured c o) ticket x))
+    pub structure-outcomes : (c o : ℕ) → c ≤ areaSize → o ≤ areaSize →
+        ReportAnswers Tickets.structure ticket r (spent (storing c o r)) (λ x. step r (report (structured c o) ticket x))
     unfolding own reportStructureOwn
-    structure-outcomes c o p q =
-        reports Tickets.structure ticket (spent (storing c o r)) (structureDone (spent (storing c o r))) (barring (longPayloads c o []) r) (λ u. sym (no _ (fitted p q) refl)) _ (λ x. whole-step r (report (structured c o) ticket x) w)
+    structure-outcomes c o p q = let s : Record = spent (storing c o r) in
+        reports Tickets.structure ticket s (structureDone s) (barring (longPayloads c o []) r) (λ u. sym (no _ (fitted p q) refl)) _ (λ x. whole-step r (report (structured c o) ticket x) w)

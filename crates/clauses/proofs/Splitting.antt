@@ -7,9 +7,9 @@ use borrow.Author.Tests.{le-ltb}
 use Rattle.choice.specs.Pick.{pick, _or_}
 use Rattle.choice.proofs.{Picks.picked, Tests.never, Tests.neither, Tests.eqb-ne, Tests.tests}
 use Rattle.areas.specs.Areas.{areaSize, long}
-use Rattle.record.specs.{Classes.Class, Classes.StepAnswer, Classes.numberOf, Classes.refused, Classes.takes, Classes.taken, Classes.Class.performed}
-use Rattle.record.specs.{Classes.Class.refusal, Classes.Class.stepping, Classes.StepAnswer.finished, Answers.Told, Answers.told, Answers.said, Answers.refuse}
-use Rattle.record.specs.{Given.effectOf, Fields.top, declared.Record.Record, declared.Outcome.Outcome, declared.Refusal.Refusal}
+use Rattle.record.specs.{Classes.Class.performed, Classes.Class.refusal, Classes.Class.stepping, Classes.StepAnswer.finished, Answers.Told, Answers.told, Answers.said}
+use Rattle.record.specs.{Answers.refuse, Given.effectOf, Fields.top, declared.Record.Record, declared.Outcome.Outcome, declared.Refusal.Refusal}
+use Rattle.record.specs.Classes.{Class, StepAnswer, numberOf, refused, takes, taken}
 use Rattle.record.specs.declared.Outcome.the-variants as O
 use Rattle.wholeness.specs.{Whole.whole, Gates.Bar, Gates.barring}
 use Rattle.wholeness.proofs.Passing.{Clear}
@@ -110,5 +110,6 @@ module _ (r : Record) (m : r .revision ≤ top) (w : whole r ≡ true) (c : Call
   on-step P f = subst (Kept P) (sym (whole-step r c w)) f still-whole
 
 -- its refusals in a row
-pub settled : (r : Record) (c : Call) {E : Class → Type 0} {done : Told} (bs : List Bar) → whole r ≡ true → own r c ≡ barring bs r done → Each E bs → Decided r E done bs (step r c)
+pub settled : (r : Record) (c : Call) {E : Class → Type 0} {done : Told} (bs : List Bar) →
+    whole r ≡ true → own r c ≡ barring bs r done → Each E bs → Decided r E done bs (step r c)
 settled r c {E} {done} bs w e x = subst (Decided r E done bs) (sym (whole-step r c w ∙ e)) (decide bs x)

@@ -12,14 +12,13 @@ use Rattle.step_begins.specs.{Opening.opening, Opening.openStep, Beginning.begu
 use Rattle.step_asks.specs.Asks.{turned}
 use Rattle.step_reports.specs.Reports.{storing}
 use Rattle.step_ends.specs.Ending.{idleAt}
-use Rattle.calls.specs.{Calls.Report, Calls.Report.structured, Calls.Report.updated, Calls.Report.rolledBack, Calls.Call}
-use Rattle.demand_steps.specs.{Watching.Item, Watching.Item.settle, Watching.Item.apply, Watching.Item.undo, Watching.Watch, Watching.isFor, Watching.sees}
-use Rattle.demand_steps.specs.{Watching.watch, Watching.unwatched}
-use Rattle.demand_steps.proofs.{Facts.Whole, Facts.byCase, Testing.ranges, Wholeness.successor-test, Tickets.is-live, Tickets.onStructure, Tickets.onUpdate}
-use Rattle.demand_steps.proofs.{Tickets.onRollback, Moves.Along, Moves.Along.start, Moves.Along.close, Moves.Along.back, Moves.goes-up, Moves.goes-down, Moves.inAlong}
-use Rattle.demand_steps.proofs.{Leaf.Leaf.kept, Leaf.Leaf.began, Leaf.Leaf.structureAsked, Leaf.Leaf.updateEnded, Leaf.Leaf.updateAsked, Leaf.Leaf.rollbackEnded}
-use Rattle.demand_steps.proofs.{Leaf.Leaf.turnedEmpty, Leaf.Leaf.turnedAsked, Leaf.Leaf.waited, Leaf.Leaf.went, Leaf.Leaf.updateTaken, Leaf.Leaf.undoTaken}
-use Rattle.demand_steps.proofs.{Leaf.Leaf.committed, Leaf.Leaf.recovered, Leaf.Leaf.restored, Leaf.Leaf}
+use Rattle.calls.specs.{Calls.Report, Calls.Call, Calls.Report.structured, Calls.Report.updated, Calls.Report.rolledBack}
+use Rattle.demand_steps.specs.Watching.{Item, Watch, isFor, sees, watch, unwatched}
+use Rattle.demand_steps.specs.Watching.Item.{settle, apply, undo}
+use Rattle.demand_steps.proofs.{Facts.Whole, Facts.byCase, Testing.ranges, Wholeness.successor-test, Tickets.is-live, Tickets.onStructure, Tickets.onUpdate, Tickets.onRollback}
+use Rattle.demand_steps.proofs.{Moves.Along, Moves.goes-up, Moves.goes-down, Moves.inAlong, Moves.Along.start, Moves.Along.close, Moves.Along.back, Leaf.Leaf}
+use Rattle.demand_steps.proofs.Leaf.Leaf.{kept, began, structureAsked, updateEnded, updateAsked, rollbackEnded, turnedEmpty, turnedAsked, waited, went, updateTaken, undoTaken}
+use Rattle.demand_steps.proofs.Leaf.Leaf.{committed, recovered, restored}
 use Rattle.demand_chains.specs.Sending.{Sent, afterSent, heardSent}
 use Rattle.demand_chains.proofs.{Noting.Tied, Noting.note-ahead, Noting.note-behind, Sending.chain-keeps, Chain.Good, Chain.good-leaf, Theorems.good}
 use Rattle.clauses.specs.Chains.{forwardStages, recoveryStages, stageOf, stages, Steps, Listed}

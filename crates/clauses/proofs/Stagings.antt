@@ -1,21 +1,26 @@
 -- `begin`, `begin_structural`, `pending_mut` and `work`, clause by clause, and which error a begin gives. Assumes nothing.
 use Prim.Native.Nat.{ℕ, _≤_}
-use mathlib.Core.{Path._≡_, Path.refl, Path.ap, Bool.Bool, Bool.true, Bool.false}
+use mathlib.Core.{Path._≡_, Path.refl, Path.ap, Bool.Bool, Bool.true, Bool.false, List.List}
 use borrow.Author.Tests.{eqb-true, ne-eqb, ltb-true, ltb-false, le-ltb, not-true}
 use Rattle.choice.specs.Pick.{pick}
 use Rattle.choice.proofs.{Picks.yes, Picks.no, Tests.never, Tests.eqb-ne}
-use Rattle.record.specs.{Classes.Class, Classes.Class.refusal, Answers.Told, Answers.answer, Fields.top, Fields.withLengths, declared.Record.Record}
-use Rattle.record.specs.{declared.Beginning.Beginning, declared.Answer.the-variants.Done, declared.Was.the-variants.Nothing, declared.Refusal.the-variants.Pending}
-use Rattle.record.specs.{declared.Refusal.the-variants.Idle, declared.Refusal.the-variants.Capacity}
-use Rattle.wholeness.specs.Whole.{whole}
+use Rattle.record.specs.{Classes.Class, Classes.Class.refusal, Answers.Told, Answers.answer, Fields.top, Fields.withLengths, declared.Record.Record, declared.Beginning.Beginning}
+use Rattle.record.specs.{declared.Answer.the-variants.Done, declared.Was.the-variants.Nothing}
+use Rattle.record.specs.declared.Refusal.the-variants.{Pending, Idle, Capacity}
+use Rattle.wholeness.specs.{Whole.whole, Gates.Bar}
 use Rattle.wholeness.proofs.Passing.{Clear}
 use Rattle.step_begins.specs.Beginning.{firstPhase, begun, beginBars, beginOwn, editBars, editOwn}
 use Rattle.calls.specs.{Calls.step, Calls.Call.begin, Calls.Call.edit}
 use Rattle.demand_steps.proofs.Own.{own}
-use Rattle.clauses.specs.{Keeping.gained, Keeping.SameBatch, Staging.CanBegin, Staging.Begun, Staging.BeginClauses, Staging.EditClauses, Gaps.BeginAnswer}
-use Rattle.clauses.specs.{Gaps.BeginAnswer.pending, Gaps.BeginAnswer.capacity, Gaps.BeginAnswer.tooLong, Gaps.BeginAnswer.tooMany, Gaps.BeginAnswer.begins}
-use Rattle.clauses.proofs.{Splitting.fitting, Splitting.fitted, Splitting.differ, Splitting.bar, Splitting.Each, Splitting.Decided, Splitting.Decided.refuses}
-use Rattle.clauses.proofs.{Splitting.Decided.does, Splitting.decides, Splitting.only, Splitting.denied, Splitting.keeps, Splitting.still-whole, Splitting.settled}
+use Rattle.clauses.specs.{Keeping.gained, Keeping.Framed, Keeping.SameBatch, Staging.CanBegin, Staging.Begun, Staging.BeginClauses, Staging.EditClauses, Gaps.BeginAnswer}
+use Rattle.clauses.specs.Gaps.BeginAnswer.{pending, capacity, tooLong, tooMany, begins}
+use Rattle.clauses.proofs.Splitting.{fitting, fitted, differ, bar, Each, Decided, decides, only, denied, keeps, still-whole, settled}
+use Rattle.clauses.proofs.Splitting.Decided.{refuses, does}
+
+framed : {r : Record} {E : Class → Type 0} {d t : Told} {bs : List Bar} → Decided r E d bs t → whole (t .state) ≡ true →
+    (d .state .accepted ≡ r .accepted) × (d .state .revision ≡ r .revision) → Framed r t
+framed (refuses n e) k x = record { wf = k; accepted = refl; version = refl }
+framed (does y) k x = record { wf = k; accepted = x .0; version = x .1 }
 
 module _ (r : Record) (b : Beginning) where
   abbrev Error : Class → Type 0
@@ -50,9 +55,10 @@ module _ (r : Record) (b : Beginning) where
     pub begin-clauses : BeginClauses structural r b (step r (begin structural b))
     unfolding begun
     begin-clauses = record {
-      framed = record { wf = still-whole r m w (begin structural b); accepted = keeps (λ s. s .accepted ≡ r .accepted) decided refl refl; version = keeps (λ s. s .revision ≡ r .revision) decided refl refl };
+      framed = framed decided (still-whole r m w (begin structural b)) (refl, refl);
       c147 = decides decided refl can clear;
-      ok = only (λ t. Begun structural b (t .state)) decided (λ x. record { c148 = refl; c149 = refl; c149-candidate = refl; c149-recovery = refl; c150 = refl; c151 = refl; c152 = refl; c153 = refl });
+      ok = only (λ t. Begun structural b (t .state)) decided (λ x.
+          record { c148 = refl; c149 = refl; c149-candidate = refl; c149-recovery = refl; c150 = refl; c151 = refl; c152 = refl; c153 = refl });
       c154 = λ i. denied decided refl i .0;
       c157 = λ i. denied decided refl i .1 .1;
     }
@@ -71,7 +77,7 @@ module _ (r : Record) (c o : ℕ) (m : r .revision ≤ top) (w : whole r ≡ tru
 
   pub edit-clauses : EditClauses r c o (step r (edit c o))
   edit-clauses = record {
-    framed = record { wf = still-whole r m w (edit c o); accepted = keeps (λ s. s .accepted ≡ r .accepted) edited refl refl; version = keeps (λ s. s .revision ≡ r .revision) edited refl refl };
+    framed = framed edited (still-whole r m w (edit c o)) (refl, refl);
     c124 = keeps (SameBatch r) edited (search) (search);
     c123-record = only (λ t. t .state ≡ withLengths (r .accepted) c o r) edited (λ x. refl);
     c123-refused = λ i. denied edited refl i .0;

@@ -8,10 +8,10 @@ use borrow.Author.Tests.{eq-eqb, le-leb, leb-false, not-true, not-false}
 use Rattle.choice.specs.Pick.{pick, _and_, _or_}
 use Rattle.choice.proofs.{Picks.picked, Tests.tests, Tests.never, Tests.both, Tests.neither, Tests.join}
 use Rattle.record.specs.{Classes.refused, Classes.Class.performed, Answers.said, declared.Refusal.Refusal}
-use Rattle.status.specs.{Status.Marks, Status.leavesMarks, Status.groupLive, Status.groupSettled, Status.markLinked, Status.markCancelled, Status.markInitialized}
-use Rattle.status.specs.{Status.markFinished, Status.markMost, Status.has, Status.with, Status.bytesSound, Status.entryOf, Status.put, Status.marking, Status.marksOf}
-use Rattle.status.specs.{declared.StatusCall.StatusCall, declared.StatusCall.the-variants.Initialize, declared.Entry.Entry, declared.Entry.the-variants.At}
-use Rattle.status.specs.{declared.Entry.the-variants.No}
+use Rattle.status.specs.{declared.StatusCall.StatusCall, declared.StatusCall.the-variants.Initialize, declared.Entry.Entry}
+use Rattle.status.specs.Status.{Marks, leavesMarks, groupLive, groupSettled, markLinked, markCancelled, markInitialized, markFinished, markMost, has, with, bytesSound, entryOf}
+use Rattle.status.specs.Status.{put, marking, marksOf}
+use Rattle.status.specs.declared.Entry.the-variants.{At, No}
 use Rattle.demand_steps.proofs.Testing.{right}
 use Rattle.clauses.specs.Status.{Place, MarkClauses, Initializes, Cancels}
 use Rattle.clauses.proofs.Splitting.{clash}

@@ -4,8 +4,8 @@ use mathlib.Core.{Path._≡_, Path.refl, Path.ap, Bool.true, Bool.false, Logic._
 use borrow.Author.Tests.{not-false}
 use Rattle.choice.proofs.Tests.{test}
 use Rattle.phases.specs.{Phases.hasSuccessor, Phases.boundary, declared.Phase.Phase}
-use Rattle.record.specs.{Classes.Class, Classes.refused, Classes.Class.refusal, Classes.StepAnswer.finished, Answers.Told, Fields.top, Live.isLive}
-use Rattle.record.specs.{declared.Record.Record, declared.Outcome.Outcome, declared.Refusal.the-variants.NotReady}
+use Rattle.record.specs.{Classes.Class, Classes.refused, Classes.Class.refusal, Classes.StepAnswer.finished, Answers.Told, Fields.top, Live.isLive, declared.Record.Record}
+use Rattle.record.specs.{declared.Outcome.Outcome, declared.Refusal.the-variants.NotReady}
 use Rattle.record.specs.Live as Tickets
 use Rattle.wholeness.specs.Whole.{whole}
 use Rattle.step_asks.specs.Asks.{askStructureOwn}
@@ -13,8 +13,8 @@ use Rattle.step_reports.specs.{Done.structureDone, Reports.reportStructureOwn}
 use Rattle.calls.specs.{Calls.step, Calls.Work.structure, Calls.Report.structured, Calls.Call.ask, Calls.Call.report}
 use Rattle.demand_steps.proofs.{Own.own, Reading.whole-facts, Reading.apart-of, Testing.ranges}
 use Rattle.clauses.specs.{Keeping.SameBatch, Keeping.Framed, Polls.unfinished, Structure.StructureClauses, Structure.Advances}
-use Rattle.clauses.proofs.{Splitting.clash, Splitting.differ, Splitting.unended, Splitting.by, Splitting.outcomes, Splitting.on-step, Onward.calm-staged}
-use Rattle.clauses.proofs.{Onward.no-successor, Onward.at-boundary, Onward.has-one, Onward.succeeds, Onward.onwards, Onward.stepping-on}
+use Rattle.clauses.proofs.Splitting.{clash, differ, unended, by, outcomes, on-step}
+use Rattle.clauses.proofs.Onward.{calm-staged, no-successor, at-boundary, has-one, succeeds, onwards, stepping-on}
 
 -- not the refusal 4
 ready : {c : Class} → refused c ≡ false → c ≢ refusal NotReady
@@ -28,7 +28,8 @@ module _ (r : Record) (m : r .revision ≤ top) (w : whole r ≡ true) where
   idle e = test (hasSuccessor (r .phase .number)) (λ s. clash _ (calm-staged (whole-facts r m w .calm) (apart-of _ s .not0)) e) (λ n. n)
 
   -- the phase stays
-  stands : {t : Told} → Framed r t × SameBatch r (t .state) × (t .state .staged ≡ r .staged) → (t .state .phase ≡ r .phase) × (t .state .forward ≡ r .forward) × (t .state .back ≡ r .back) →
+  stands : {t : Told} → Framed r t × SameBatch r (t .state) × (t .state .staged ≡ r .staged) →
+      (t .state .phase ≡ r .phase) × (t .state .forward ≡ r .forward) × (t .state .back ≡ r .back) →
       (hasSuccessor (r .phase .number) ≡ true → t .class ≢ refusal NotReady) → (hasSuccessor (r .phase .number) ≡ false → t .state ≡ r) →
       (t .class ≡ Class.stepping finished → boundary (r .phase .number) ≡ true) → Clauses t
   stands x y f g b =

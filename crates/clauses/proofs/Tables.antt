@@ -7,8 +7,8 @@ use Rattle.phases.specs.Phases.{hasSuccessor, successor, boundary}
 use Rattle.record.specs.{Fields.top, declared.Record.Record, declared.Live.Live, declared.Live.the-variants.None}
 use Rattle.wholeness.specs.Whole.{whole}
 use Rattle.wholeness.proofs.Facts.{parts}
-use Rattle.demand_steps.proofs.{Facts.Stage, Facts.Calm, Facts.tests, Facts.Stage.flat, Facts.Stage.flatBack, Facts.Stage.before, Facts.Stage.updating, Facts.Stage.after}
-use Rattle.demand_steps.proofs.{Facts.Stage.undoing, Facts.Stage.backing, Facts.Calm.on, Facts.Calm.off, Reading.whole-facts, Calming.room}
+use Rattle.demand_steps.proofs.{Facts.Stage, Facts.Calm, Facts.tests, Facts.Calm.on, Facts.Calm.off, Reading.whole-facts, Calming.room}
+use Rattle.demand_steps.proofs.Facts.Stage.{flat, flatBack, before, updating, after, undoing, backing}
 use Rattle.clauses.specs.Tables.{phases, numberOf, successors, boundaries, Protocol, WellFormed}
 
 pub successor-table : map (λ p. numberOf (successor p)) phases ≡ successors
