@@ -6,7 +6,7 @@ use mathlib.Core.{Path._≡_, Path.refl, Path.sym, Path._∙_, Path.ap, Path.sub
 use borrow.Author.Tests.{not-true, not-false}
 use Rattle.choice.specs.Pick.{pick, _and_, _or_}
 use Rattle.choice.proofs.{Picks.yes, Picks.no, Picks.picked, Picks.each, Tests.both, Tests.never}
-use Rattle.record.specs.{Classes.Class, Classes.refused, Classes.entered, Classes.callWritten, Classes.Class.performed, Classes.Class.refusal, Classes.Class.stepping, Answers.Told}
+use Rattle.record.specs.{Classes.Class, Classes.refused, Classes.refusalWritten, Classes.callWritten, Classes.Class.performed, Classes.Class.refusal, Classes.Class.stepping, Answers.Told}
 use Rattle.record.specs.{Answers.refuse, Leaves.Leaves, Leaves.leaves, Leaves.moving, Fields.top, declared.Record.Record, declared.Refusal.Refusal}
 use Rattle.record.specs.{declared.Refusal.the-variants.BadArea, declared.Refusal.the-variants.Damaged, declared.Refusal.the-variants.LogFull}
 use Rattle.wholeness.specs.{Whole.whole, Gates.gateOf, Gates.gated}
@@ -55,7 +55,7 @@ refused-unwritten (refusal why) e = refl
 refused-unwritten (stepping s) e = refl
 
 -- nor is a refusal but 4 and 5 in any
-unwritten : (kind : ℕ) (why : Refusal) → entered why ≡ false → writtenAs kind (refusal why) ≡ false
+unwritten : (kind : ℕ) (why : Refusal) → refusalWritten why ≡ false → writtenAs kind (refusal why) ≡ false
 unfolding writtenAs
 unwritten kind why e = each (λ (b : Bool). b ≡ false) _ refl (each (λ (b : Bool). b ≡ false) _ e refl)
 
@@ -74,7 +74,7 @@ module _ (r : Record) (log : List ℕ) (c : Lending true) {d : Call} (e : callOf
   leaves-by {t} q = ap (λ (u : Told). logs (callOf c) u r log (lent c) (moved r c)) q ∙ ap (λ (a : AnyCall). logs a t r log (lent c) (moved r c)) e
 
   -- a refusal that is not written leaves all as it was
-  silent : (why : Refusal) → entered why ≡ false → through (refuse why r) ≡ leaves (refuse why r) (log ∷ lent c)
+  silent : (why : Refusal) → refusalWritten why ≡ false → through (refuse why r) ≡ leaves (refuse why r) (log ∷ lent c)
   unfolding recorded
   silent why n = sym (yes _ (not-yes _ (unwritten (kindOf d) why n)) (ap (λ (l : List (List ℕ)). leaves (refuse why r) (log ∷ l)) (yes _ refl refl)))
 
@@ -98,7 +98,7 @@ module _ (r : Record) (log : List ℕ) (c : Lending true) {d : Call} (e : callOf
   at-size z h = ap (λ (b : Bool). stepOf (withLog (fits c) log .sized) b r (callOf c)) h ∙ ap (λ (a : Bool). stepOf a true r (callOf c)) (z ∙ sym (fit (fits c) log z))
 
   pub recorded-clauses : Through r log c d (leavesThrough r log c)
-  unfolding entered _or_
+  unfolding refusalWritten _or_
   recorded-clauses = record {
     bad = λ z. leaves-by (bad-size (gates r c e) z) ∙ silent BadArea refl;
     damaged = λ z f. leaves-by (bad-head (gates r c e) z f) ∙ silent Damaged refl;

@@ -9,9 +9,9 @@ use Rattle.wholeness.specs.Whole.{whole}
 use Rattle.wholeness.proofs.Facts.{parts}
 use Rattle.demand_steps.proofs.{Facts.Stage, Facts.Calm, Facts.tests, Facts.Calm.on, Facts.Calm.off, Reading.whole-facts, Calming.room}
 use Rattle.demand_steps.proofs.Facts.Stage.{flat, flatBack, before, updating, after, undoing, backing}
-use Rattle.clauses.specs.Tables.{phases, numberOf, successors, boundaries, Protocol, WellFormed}
+use Rattle.clauses.specs.Tables.{phases, phaseNumber, successors, boundaries, Protocol, WellFormed}
 
-pub successor-table : map (λ p. numberOf (successor p)) phases ≡ successors
+pub successor-table : map (λ p. phaseNumber (successor p)) phases ≡ successors
 unfolding successor hasSuccessor pick _and_ _or_
 successor-table = refl
 

@@ -17,9 +17,9 @@ abbrev pub phases : List ℕ
 phases = 0 ∷ 1 ∷ 2 ∷ 3 ∷ 4 ∷ 5 ∷ 6 ∷ 7 ∷ 8 ∷ 9 ∷ 10 ∷ 11 ∷ 12 ∷ 13 ∷ []
 
 -- a successor's number, 0 for none
-abbrev pub numberOf : Next → ℕ
-numberOf (To next) = next .number
-numberOf Nowhere = 0
+abbrev pub phaseNumber : Next → ℕ
+phaseNumber (To next) = next .number
+phaseNumber Nowhere = 0
 
 -- C9 to C18: the successor of each
 abbrev pub successors : List ℕ

@@ -9,7 +9,7 @@ use Rattle.choice.specs.Pick.{pick, _and_, _or_, _implies_}
 use Rattle.phases.specs.Phases.{hasSuccessor, successor, boundary}
 use Rattle.areas.specs.Areas.{long, sized, copied}
 use Rattle.batch.specs.Batch.{tableSized, paired, pairsIn, stored}
-use Rattle.record.specs.Classes.{successful, granted, entered}
+use Rattle.record.specs.Classes.{successful, granted, refusalWritten}
 use Rattle.record.specs.Answers.{Told}
 use Rattle.record.specs.Live.{isLive}
 use Rattle.record.specs.Given.{at}
@@ -25,7 +25,7 @@ use Rattle.step_reports.specs.Reports.{reported, reportStructureOwn, reportUpda
 use Rattle.step_ends.specs.Ending.{idleAt, commitOwn, unrestored, recoverOwn, recoverRetainedOwn, refreshOwn}
 use Rattle.step_stamps.specs.Stamping.{stampStep, passes, checkStep}
 use Rattle.log.specs.Log.{logSized, sound, full, appended, blank}
-use Rattle.events.specs.Entries.{noted}
+use Rattle.events.specs.Entries.{eventIf}
 use Rattle.noting.specs.Recorded.{withLog, recorded}
 use Rattle.noting.specs.Through.{leavesThrough}
 use Rattle.calls.specs.Calls.{Call, step}
@@ -51,7 +51,7 @@ grants r c = granted (called r c .class)
 
 -- a chain of calls as they are sent: the record that is reached, what the watcher then knows, and the numbers that are answered
 unfoldable pub reached : Record → List Sent → Record
-unfolding called entered kindOf writtenAs answered afterSent
+unfolding called refusalWritten kindOf writtenAs answered afterSent
 reached r ss = afterSent r ss
 
 unfoldable pub known : Watch → Record → List Sent → Watch
@@ -64,7 +64,7 @@ numbers r ss = map (λ (h : Heard). h .answer .number) (heardSent r ss)
 
 -- a chain through the recorder, an opening before it, and the events of the plain one
 unfoldable pub throughLog : Record → List ℕ → List Call → Logged
-unfolding reached logSized sound full appended blank sized withLog recorded leavesThrough noted events loggedStep logged
+unfolding reached logSized sound full appended blank sized withLog recorded leavesThrough eventIf events loggedStep logged
 throughLog r log cs = logged r log cs
 
 -- a chain of real calls

@@ -16,7 +16,7 @@ use Rattle.step_reports.specs.Done.{advanced}
 use Rattle.step_reports.specs.Reports.{storing}
 use Rattle.calls.specs.Calls.{Report}
 use Rattle.calls.specs.Calls.Report.{structured}
-use Rattle.demand_steps.specs.Watching.{Watch, isFor, lists, reported}
+use Rattle.demand_steps.specs.Watching.{Watch, isFor, lists, hearsReport}
 use Rattle.demand_steps.specs.Watching.Item.{settle}
 use Rattle.demand_steps.proofs.Leaf.{Apart}
 use Rattle.demand_steps.proofs.Facts.{Whole, byCase}
@@ -34,12 +34,12 @@ pub record Tied (w : Watch) (r : Record) : Type 0 where
 
 -- a Done report that is taken, of the last ticket: before and after a rollback was granted
 module _ (of : Report) (t : ℕ) (s : StepAnswer) (w : Watch) (h : takes s ≡ true) (e : w .ticket ≡ t) (j : isFor of (w .item) ≡ true) where
-  pub note-ahead : w .turned ≡ false → reported of t works (said (stepping s) []) w ≡ lists (w .done ++ (w .item ∷ [])) (w .undone) w
-  unfolding reported pick _and_
+  pub note-ahead : w .turned ≡ false → hearsReport of t works (said (stepping s) []) w ≡ lists (w .done ++ (w .item ∷ [])) (w .undone) w
+  unfolding hearsReport pick _and_
   note-ahead i = rw (h, eq-eqb t (w .ticket) (sym e), j, i)
 
-  pub note-behind : w .turned ≡ true → reported of t works (said (stepping s) []) w ≡ lists (w .done) (w .undone ++ (w .item ∷ [])) w
-  unfolding reported pick _and_
+  pub note-behind : w .turned ≡ true → hearsReport of t works (said (stepping s) []) w ≡ lists (w .done) (w .undone ++ (w .item ∷ [])) w
+  unfolding hearsReport pick _and_
   note-behind i = rw (h, eq-eqb t (w .ticket) (sym e), j, i)
 
 along-ahead : {p f b n a k : ℕ} {v : Bool} → Along p f b n a k v → p ≤ 6 → v ≡ false
@@ -53,7 +53,7 @@ undo-back (Undo.inside x1 x2 x3 x4 x5) = x4
 
 -- a structure report that is taken
 pub advances : {r : Record} (w : Watch) (s : StepAnswer) (t new old : ℕ) → Whole r → Tied w r → takes s ≡ true → Apart (r .phase .number) →
-    (w .ticket ≡ t) × (w .item ≡ settle (r .phase .number)) → Tied (reported (structured new old) t works (said (stepping s) []) w) (advanced (spent (storing new old r)))
+    (w .ticket ≡ t) × (w .item ≡ settle (r .phase .number)) → Tied (hearsReport (structured new old) t works (said (stepping s) []) w) (advanced (spent (storing new old r)))
 advances {r} w a t new old h d o y q =
     let of : Report = structured new old in
     let s = successor-test (r .phase .number) (ranges (h .stage) .bound) y in

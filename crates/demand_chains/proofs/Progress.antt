@@ -24,7 +24,7 @@ use Rattle.calls.specs.Calls.Work.{structure, update, rollback}
 use Rattle.calls.specs.Calls.Call.{ask}
 use Rattle.demand_chains.specs.Chains.{heard}
 use Rattle.demand_steps.specs.Watching as W
-use Rattle.demand_steps.specs.Watching.{Item, Watch, reported, sees, watch}
+use Rattle.demand_steps.specs.Watching.{Item, Watch, hearsReport, sees, watch}
 use Rattle.demand_chains.specs.Plans.{due}
 use Rattle.demand_chains.specs.Progress.{DoneReport, counted, wanted, MovesOn, Progress}
 use Rattle.demand_chains.specs.Progress.DoneReport.{forStructure, forUpdate, forRollback}
@@ -66,8 +66,8 @@ pub record Noted (w x : Watch) : Type 0 where
   pub turned : x .turned ≡ w .turned
 
 module _ {w x : Watch} (s : Same w x) (t : ℕ) where
-  notes : (of : Report) (a : Said) → taken (a .class) ≡ true → Noted w (reported of t works a x)
-  unfolding reported pick
+  notes : (of : Report) (a : Said) → taken (a .class) ≡ true → Noted w (hearsReport of t works a x)
+  unfolding hearsReport pick
   notes of a h = record {
     one-more = rw h (notes-one _ _ x refl) ∙ ap (λ (n : ℕ). n + 1) (s .as-much);
     as-many = report-keeps wanted (λ d u y. refl) of t works a x ∙ s .as-many;

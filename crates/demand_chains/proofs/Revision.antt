@@ -18,7 +18,7 @@ use Rattle.step_reports.specs.Done.{advanced}
 use Rattle.step_ends.specs.Ending.{idleAt}
 use Rattle.calls.specs.Calls.{Report, Call}
 use Rattle.demand_chains.specs.Sending.{Sent, afterSent, heardSent}
-use Rattle.demand_steps.specs.Watching.{Watch, reported, sees, watch}
+use Rattle.demand_steps.specs.Watching.{Watch, hearsReport, sees, watch}
 use Rattle.demand_steps.proofs.Keeping.{report-keeps, onward-keeps}
 use Rattle.demand_steps.proofs.Leaf.{Leaf}
 use Rattle.demand_steps.proofs.Leaf.Leaf.{kept, began, structureAsked, updateEnded, updateAsked, rollbackEnded, turnedEmpty, turnedAsked, waited, went, updateTaken, undoTaken, committed, recovered, restored}
@@ -32,7 +32,7 @@ record Known (r q : Record) (w later : Watch) : Type 0 where
 alike : {r q : Record} {w later : Watch} → q .staged ≡ r .staged → q .revision ≡ r .revision → later .running ≡ w .running → later .commits ≡ w .commits → Known r q w later
 alike s v i n = record { runs = λ h. i ∙ h ∙ sym s; gains = omega arith }
 
-reports : {r q : Record} (of : Report) (t : ℕ) (s : StepAnswer) (w : Watch) → q .staged ≡ r .staged → q .revision ≡ r .revision → Known r q w (reported of t works (said (stepping s) []) w)
+reports : {r q : Record} (of : Report) (t : ℕ) (s : StepAnswer) (w : Watch) → q .staged ≡ r .staged → q .revision ≡ r .revision → Known r q w (hearsReport of t works (said (stepping s) []) w)
 reports of t s w e v =
     alike e v (report-keeps (λ (x : Watch). x .running) (λ d u x. refl) of t works _ w) (report-keeps (λ (x : Watch). x .commits) (λ d u x. refl) of t works _ w)
 

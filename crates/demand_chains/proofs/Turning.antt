@@ -16,7 +16,7 @@ use Rattle.calls.specs.Calls.{Report, Call, step}
 use Rattle.calls.specs.Calls.Call.{commit}
 use Rattle.calls.specs.Kinds.{kindOf}
 use Rattle.demand_chains.specs.Sending.{Sent, answered, afterSent, heardSent}
-use Rattle.demand_steps.specs.Watching.{hears, Watch, reported, sees, watch}
+use Rattle.demand_steps.specs.Watching.{hears, Watch, hearsReport, sees, watch}
 use Rattle.demand_chains.specs.Turning.{recovers, recoveredIn, UntilRecovery}
 use Rattle.demand_steps.proofs.Own.{own, row}
 use Rattle.demand_steps.proofs.Leaf.{Leaf}
@@ -47,7 +47,7 @@ record Stays (w later : Watch) : Type 0 where
   structural : later .structural ≡ w .structural
   started : later .started ≡ w .started
 
-report-stays : (of : Report) (t : ℕ) (a : Said) (w : Watch) → w .running ≡ true → w .turned ≡ true → Stays w (reported of t works a w)
+report-stays : (of : Report) (t : ℕ) (a : Said) (w : Watch) → w .running ≡ true → w .turned ≡ true → Stays w (hearsReport of t works a w)
 report-stays of t a w i v = record {
   running = report-keeps (λ (x : Watch). x .running) (λ d u x. refl) of t works a w ∙ i;
   turned = report-keeps (λ (x : Watch). x .turned) (λ d u x. refl) of t works a w ∙ v;

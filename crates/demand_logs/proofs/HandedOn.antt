@@ -15,7 +15,7 @@ use Rattle.calls.specs.Calls.AnyCall.{opens, calls}
 use Rattle.calls.specs.Lending.{callOf, lent, moved, leavesOf}
 use Rattle.noting.specs.Recorded.{recorded, besides}
 use Rattle.noting.specs.Through.{inner, logs, leavesThrough}
-use Rattle.demand_logs.specs.Holding.{Held, Given, lends, keeps, after, does}
+use Rattle.demand_logs.specs.Holding.{Held, Given, lends, keeps, handedBack, does}
 use Rattle.demand_logs.specs.Holding.Payload.{structured, updated, rolledBack}
 use Rattle.demand_logs.specs.Holding.Given.{begin, ask, report, edit, commit, recover, recoverRetained, refresh, stamp, check}
 use Rattle.demand_logs.specs.Holding.Doing.{transacts, records, fills}
@@ -23,7 +23,7 @@ use Rattle.demand_logs.specs.Holding.Doing.{transacts, records, fills}
 -- the lists l that a call leaves, held and lent again
 module _ {logged : Bool} (h : Held) (g : Given logged) (s : Record) (log : List ℕ) where
   abbrev Back : List (List ℕ) → Type 0
-  Back l = lent (lends (after s log (keeps h g l)) g) ≡ l
+  Back l = lent (lends (handedBack s log (keeps h g l)) g) ≡ l
 
 -- of a call that is given to what is held, and leaves the record s, the log and l of what it was lent: it is no opening; the lists come
 -- back, whether they stay or move; and with what it was lent put back as it was, nothing has changed
@@ -32,7 +32,7 @@ pub record Placed {logged : Bool} (h : Held) (g : Given logged) (r s : Record) (
   pub called : callOf (lends h g) ≡ calls call
   pub stays : Back h g s log (lent (lends h g))
   pub moves : Back h g s log (moved r (lends h g))
-  pub put-back : after (h .state) (h .log) (keeps (after s log (keeps h g l)) g (lent (lends h g))) ≡ h
+  pub put-back : handedBack (h .state) (h .log) (keeps (handedBack s log (keeps h g l)) g (lent (lends h g))) ≡ h
 
 pub placed : {logged : Bool} (h : Held) (g : Given logged) (r s : Record) (log : List ℕ) (l : List (List ℕ)) → Placed h g r s log l
 placed h (begin structural new old pairs) r s log l = record { call = _; called = refl; stays = refl; moves = refl; put-back = refl }
@@ -56,7 +56,7 @@ pub handed-on : (h : Held) (g : Given false) → lent (lends (does h (transacts 
 handed-on h g = back h g (leavesOf (h .state) (lends h g) .told) _ (h .log)
 
 pub confined : (h : Held) (g : Given false) →
-    (after (h .state) (h .log) (keeps (does h (transacts g)) g (lent (lends h g))) ≡ h) × (does h (transacts g) .log ≡ h .log)
+    (handedBack (h .state) (h .log) (keeps (does h (transacts g)) g (lent (lends h g))) ≡ h) × (does h (transacts g) .log ≡ h .log)
 confined h g = (placed h g (h .state) _ _ _ .put-back, refl)
 
 pub fills-alone : (h : Held) (x : List ℕ) → does (does h (fills x)) (fills (h .exchange)) ≡ h
@@ -64,12 +64,12 @@ fills-alone h x = refl
 
 -- through the log, which comes first
 module _ (h : Held) (g : Given true) where
-  pub confined-logged : after (h .state) (h .log) (keeps (does h (records g)) g (lent (lends h g))) ≡ h
+  pub confined-logged : handedBack (h .state) (h .log) (keeps (does h (records g)) g (lent (lends h g))) ≡ h
   confined-logged = placed h g (h .state) _ _ _ .put-back
 
   abbrev Lands : Leaves → Type 0
   Lands v =
-      getD (v .lent) 0 [] ∷ lent (lends (after (v .told .state) (getD (v .lent) 0 []) (keeps h g (drop 1 (v .lent)))) g) ≡ v .lent
+      getD (v .lent) 0 [] ∷ lent (lends (handedBack (v .told .state) (getD (v .lent) 0 []) (keeps h g (drop 1 (v .lent)))) g) ≡ v .lent
 
   row : (t : Told) (x : List ℕ) {l : List (List ℕ)} → Back h g (t .state) x l → Lands (leaves t (x ∷ l))
   row t x e = ap (λ (m : List (List ℕ)). x ∷ m) e

@@ -26,7 +26,7 @@ use Rattle.demand_steps.specs.Watching.{Heard, hears, Watch, watch, unwatched}
 use Rattle.demand_chains.specs.Sending.{Sent, answeredAny, afterSent, heardSent}
 use Rattle.demand_chains.specs.Promises.{stampPasses}
 use Rattle.demand_chains.specs.DemandThree.{DemandThree}
-use Rattle.demand_logs.specs.Holding.{Held, Doing, lends, does, hearing, tells, sending, sends, afterHeld, heardHeld, sentHeld}
+use Rattle.demand_logs.specs.Holding.{Held, Doing, lends, does, hearing, hearsOf, sending, sends, afterHeld, heardHeld, sentHeld}
 use Rattle.demand_logs.specs.Holding.Doing.{transacts, records, fills}
 use Rattle.demand_chains.proofs.SentCalls.{sent-transaction, sent-recorder}
 use Rattle.demand_chains.proofs.Stamps.{stamp-law}
@@ -48,7 +48,7 @@ follows r t (calls c) i sized sound full e = record {
   told = λ ss. ap (λ (u : Told). hears c u ∷ heardSent (u .state) ss) (sym e);
 }
 
-one : (h : Held) (d : Doing) → Follows (h .state) (does h d .state) (tells h d) (sends h d)
+one : (h : Held) (d : Doing) → Follows (h .state) (does h d .state) (hearsOf h d) (sends h d)
 one h (transacts g) =
     follows _ (leavesOf (h .state) (lends h g) .told) _ (placed h g (h .state) (h .state) [] [] .called) _ _ _ (sent-transaction (h .state) (lends h g))
 one h (records g) =
@@ -64,7 +64,7 @@ held-after h (d ∷ ds) = held-after (does h d) ds ∙ sym (one h d .state (sent
 pub held-heard : (h : Held) (ds : List Doing) → heardHeld h ds ≡ heardSent (h .state) (sentHeld h ds)
 unfolding heardHeld sentHeld heardSent
 held-heard h [] = refl
-held-heard h (d ∷ ds) = ap (λ (hs : List Heard). tells h d ++ hs) (held-heard (does h d) ds) ∙ sym (one h d .told (sentHeld (does h d) ds))
+held-heard h (d ∷ ds) = ap (λ (hs : List Heard). hearsOf h d ++ hs) (held-heard (does h d) ds) ∙ sym (one h d .told (sentHeld (does h d) ds))
 
 module _ (h : Held) (ds : List Doing) where
   abbrev now : Record

@@ -21,7 +21,7 @@ use Rattle.record.specs.declared.Record.{Record}
 use Rattle.record.specs.declared.Refusal.the-variants.{LogFull}
 use Rattle.wholeness.specs.Whole.{whole}
 use Rattle.log.specs.Log.{logSized, count, room, sound, full}
-use Rattle.events.specs.Entries.{Entry, entries, logOf, noted}
+use Rattle.events.specs.Entries.{Entry, entries, logOf, eventIf}
 use Rattle.log.proofs.Room.{not-full}
 use Rattle.noting.specs.Recorded.{recorded}
 use Rattle.noting.specs.Through.{leavesThrough}
@@ -39,7 +39,7 @@ use Rattle.demand_logs.specs.Logged.{loggedStep}
 
 -- the event of the plain call, if it has one
 abbrev pub eventOf : Record → Call → List Entry
-eventOf r c = noted (written c) (kindOf c) (step r c)
+eventOf r c = eventIf (written c) (kindOf c) (step r c)
 
 -- what an end of the call c on r and log is to be: the plain call's, with its event last in the log
 pub record Kept (r : Record) (log : List ℕ) (c : Call) (v : Leaves) : Type 0 where

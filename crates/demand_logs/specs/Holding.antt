@@ -67,15 +67,15 @@ abbrev pub holding : Record → List ℕ → List ℕ → List ℕ → List ℕ 
 holding r a c o x t log = record { state = r; accepted = a; candidate = c; recovery = o; exchange = x; table = t; log = log }
 
 -- the areas and the table as a call has left them, each in its place among those that it was lent
-abbrev pub reports : Held → Payload → List (List ℕ) → Held
-reports h (structured new old) l = holding (h .state) (h .accepted) (getD l 0 []) (getD l 1 []) (h .exchange) (h .table) (h .log)
-reports h (updated payload) l = holding (h .state) (h .accepted) (h .candidate) (h .recovery) (h .exchange) (getD l 0 []) (h .log)
-reports h (rolledBack payload) l = holding (h .state) (h .accepted) (h .candidate) (h .recovery) (h .exchange) (getD l 0 []) (h .log)
+abbrev pub keepsReport : Held → Payload → List (List ℕ) → Held
+keepsReport h (structured new old) l = holding (h .state) (h .accepted) (getD l 0 []) (getD l 1 []) (h .exchange) (h .table) (h .log)
+keepsReport h (updated payload) l = holding (h .state) (h .accepted) (h .candidate) (h .recovery) (h .exchange) (getD l 0 []) (h .log)
+keepsReport h (rolledBack payload) l = holding (h .state) (h .accepted) (h .candidate) (h .recovery) (h .exchange) (getD l 0 []) (h .log)
 
 abbrev pub keeps : {logged : Bool} → Held → Given logged → List (List ℕ) → Held
 keeps h (begin structural new old pairs) l = holding (h .state) (h .accepted) (getD l 0 []) (getD l 1 []) (h .exchange) (getD l 2 []) (h .log)
 keeps h (ask w) l = h
-keeps h (report p ticket outcome) l = reports h p l
+keeps h (report p ticket outcome) l = keepsReport h p l
 keeps h (edit new old) l = holding (h .state) (h .accepted) (getD l 0 []) (getD l 1 []) (h .exchange) (h .table) (h .log)
 keeps h commit l = holding (h .state) (getD l 0 []) (getD l 1 []) (h .recovery) (h .exchange) (h .table) (h .log)
 keeps h (recover n) l = holding (h .state) (getD l 0 []) (h .candidate) (h .recovery) (getD l 1 []) (h .table) (h .log)
@@ -85,8 +85,8 @@ keeps h (stamp domain) l = h
 keeps h (check domain s) l = h
 
 -- and the record and the log
-abbrev pub after : Record → List ℕ → Held → Held
-after r log h = holding r (h .accepted) (h .candidate) (h .recovery) (h .exchange) (h .table) log
+abbrev pub handedBack : Record → List ℕ → Held → Held
+handedBack r log h = holding r (h .accepted) (h .candidate) (h .recovery) (h .exchange) (h .table) log
 
 -- a call of the transaction, or of the recorder; "the caller may fill the exchange area between calls"
 pub data Doing : Type 0 where
@@ -96,9 +96,9 @@ pub data Doing : Type 0 where
 
 -- what is held afterwards, by the definitions that the contracts cite
 abbrev pub does : Held → Doing → Held
-does h (transacts g) = let v = leavesOf (h .state) (lends h g) in after (v .told .state) (h .log) (keeps h g (v .lent))
+does h (transacts g) = let v = leavesOf (h .state) (lends h g) in handedBack (v .told .state) (h .log) (keeps h g (v .lent))
 does h (records g) =
-    let v = leavesThrough (h .state) (h .log) (lends h g) in after (v .told .state) (getD (v .lent) 0 []) (keeps h g (drop 1 (v .lent)))
+    let v = leavesThrough (h .state) (h .log) (lends h g) in handedBack (v .told .state) (getD (v .lent) 0 []) (keeps h g (drop 1 (v .lent)))
 does h (fills x) = holding (h .state) (h .accepted) (h .candidate) (h .recovery) x (h .table) (h .log)
 
 -- what is heard of it
@@ -106,10 +106,10 @@ abbrev pub hearing : AnyCall → Told → List Heard
 hearing (opens given accepted) t = []
 hearing (calls c) t = hears c t ∷ []
 
-abbrev pub tells : Held → Doing → List Heard
-tells h (transacts g) = hearing (callOf (lends h g)) (leavesOf (h .state) (lends h g) .told)
-tells h (records g) = hearing (callOf (lends h g)) (leavesThrough (h .state) (h .log) (lends h g) .told)
-tells h (fills x) = []
+abbrev pub hearsOf : Held → Doing → List Heard
+hearsOf h (transacts g) = hearing (callOf (lends h g)) (leavesOf (h .state) (lends h g) .told)
+hearsOf h (records g) = hearing (callOf (lends h g)) (leavesThrough (h .state) (h .log) (lends h g) .told)
+hearsOf h (fills x) = []
 
 -- the call as it is sent: its sizes, and where it goes through the log, the log's head and room
 abbrev pub sending : AnyCall → Bool → Bool → Bool → List Sent
@@ -129,7 +129,7 @@ afterHeld h (d ∷ ds) = afterHeld (does h d) ds
 
 unfoldable pub heardHeld : Held → List Doing → List Heard
 heardHeld h [] = []
-heardHeld h (d ∷ ds) = tells h d ++ heardHeld (does h d) ds
+heardHeld h (d ∷ ds) = hearsOf h d ++ heardHeld (does h d) ds
 
 unfoldable pub sentHeld : Held → List Doing → List Sent
 sentHeld h [] = []

@@ -15,7 +15,7 @@ use Rattle.step_stamps.specs.Stamping.{passes, checkStep}
 use Rattle.step_stamps.specs.declared.SaveStamp.{SaveStamp}
 use Rattle.calls.specs.Calls.{stepWith, AnyCall, stepOf}
 use Rattle.calls.specs.Calls.Call.{check}
-use Rattle.demand_refusals.specs.Rows.{given, among, count}
+use Rattle.demand_refusals.specs.Rows.{given, among, howMany}
 use Rattle.demand_refusals.specs.Refusals.{returned, rows, numbersOf}
 use Rattle.demand_refusals.proofs.OneRow.{one-given, one-listed}
 use Rattle.demand_refusals.proofs.Refusals.{spoken}
@@ -33,7 +33,7 @@ module _ (sized sound : Bool) (r : Record) where
     exact-refusals = spoken sized sound r c .0 .exact
 
     -- the rows are complete and disjoint: exactly one is given
-    pub one-answer : count (given (rows sized sound r c)) (numbersOf c) ≡ 1
+    pub one-answer : howMany (given (rows sized sound r c)) (numbersOf c) ≡ 1
     one-answer = let s = spoken sized sound r c in one-given (rows sized sound r c) (s .1) (s .0)
 
     -- the answer is one of document 01's list

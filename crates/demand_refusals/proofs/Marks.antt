@@ -10,7 +10,7 @@ use Rattle.record.specs.Classes.{numberOf, refused}
 use Rattle.status.specs.Status.{Marks, put, entryOf, marking, marksOf}
 use Rattle.status.specs.declared.Entry.{Entry}
 use Rattle.status.specs.declared.StatusCall.{StatusCall}
-use Rattle.demand_refusals.specs.Rows.{given, among, distinct, count}
+use Rattle.demand_refusals.specs.Rows.{given, among, distinct, howMany}
 use Rattle.demand_refusals.specs.Marks.{statusRows, statusNumbers}
 use Rattle.demand_refusals.proofs.Rows.{View, Fits, row, last, around, under, over}
 use Rattle.demand_refusals.proofs.Rows.Leaf.{stays}
@@ -38,7 +38,7 @@ module _ (groups status : List ℕ) (id : ℕ) where
     pub status-exact : (n : ℕ) → eqb (marksOf groups status id c .said .number) n ≡ given (statusRows groups status id c) n
     status-exact = fits-rows c .exact
 
-    pub status-one : count (given (statusRows groups status id c)) statusNumbers ≡ 1
+    pub status-one : howMany (given (statusRows groups status id c)) statusNumbers ≡ 1
     status-one = one-given (statusRows groups status id c) all-listed (fits-rows c)
 
     pub status-listed : among (marksOf groups status id c .said .number) statusNumbers ≡ true

@@ -7,7 +7,7 @@ use lib.Dec.{eqb}
 use borrow.Author.Tests.{not-true, eqb-true, eqb-false, eq-eqb, ne-eqb}
 use Rattle.choice.specs.Pick.{pick}
 use Rattle.choice.proofs.Tests.{never, both, either, neither, test}
-use Rattle.demand_refusals.specs.Rows.{Row, given, numbers, among, distinct, count}
+use Rattle.demand_refusals.specs.Rows.{Row, given, numbers, among, distinct, howMany}
 use Rattle.demand_refusals.proofs.Rows.{View, Fits}
 
 turned-round : (a b : ℕ) → eqb a b ≡ false → eqb b a ≡ false
@@ -33,14 +33,14 @@ abbrev pub Only : ℕ → (ℕ → Bool) → Type 0
 Only x f = (n : ℕ) → eqb x n ≡ f n
 
 -- none of the others passes it
-none-passes : (x : ℕ) (f : ℕ → Bool) (ns : List ℕ) → Only x f → among x ns ≡ false → count f ns ≡ 0
-unfolding count among pick
+none-passes : (x : ℕ) (f : ℕ → Bool) (ns : List ℕ) → Only x f → among x ns ≡ false → howMany f ns ≡ 0
+unfolding howMany among pick
 none-passes x f [] o h = refl
 none-passes x f (n ∷ ns) o h = let p = neither h in simp (sym (o n) ∙ turned-round n x (p .0), none-passes x f ns o (p .1))
 
 -- exactly one of distinct numbers does, which have x among them
-pub one-passes : (x : ℕ) (f : ℕ → Bool) (ns : List ℕ) → Only x f → distinct ns ≡ true → among x ns ≡ true → count f ns ≡ 1
-unfolding count among distinct pick
+pub one-passes : (x : ℕ) (f : ℕ → Bool) (ns : List ℕ) → Only x f → distinct ns ≡ true → among x ns ≡ true → howMany f ns ≡ 1
+unfolding howMany among distinct pick
 one-passes x f [] o d h = never (sym h)
 one-passes x f (n ∷ ns) o d h =
     let p = both d in
@@ -66,7 +66,7 @@ module _ {A : Type 0} {v : View A} {x : A} (rows : List Row) {ns : List ℕ} (l 
       ap (among (v .number x)) (sym (l .0)) ∙ present rows (v .number x) (sym (f .exact (v .number x)) ∙ eq-eqb (v .number x) (v .number x) refl)
 
   -- and exactly one of the rows is given
-  pub one-given : count (given rows) ns ≡ 1
+  pub one-given : howMany (given rows) ns ≡ 1
   one-given = one-passes (v .number x) (given rows) ns (f .exact) (apart ns (l .1)) one-listed
 
 -- a call that does not answer k answers another number

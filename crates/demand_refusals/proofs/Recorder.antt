@@ -14,7 +14,7 @@ use Rattle.log.specs.Log.{full}
 use Rattle.calls.specs.Lending.{Lending, callOf, lent}
 use Rattle.calls.specs.Kinds.{kind}
 use Rattle.noting.specs.Through.{inner, leavesThrough}
-use Rattle.demand_refusals.specs.Rows.{among, distinct, count}
+use Rattle.demand_refusals.specs.Rows.{among, distinct, howMany}
 use Rattle.demand_refusals.specs.Refusals.{returned, numbersOf}
 use Rattle.demand_refusals.specs.Through.{givenThrough, numbersThrough, logAfter}
 use Rattle.demand_refusals.proofs.OneRow.{one-passes, apart}
@@ -61,7 +61,7 @@ module _ (r : Record) (log : List ℕ) (c : Lending true) where
       ∙ twelve-listed _ _ n (numbersOf (callOf c)) (λ e. no-left (full log) (no-kind (kind c) _ e)) (listed-answer _ _ r (callOf c))
 
   -- exactly one answer is given
-  pub recorder-one : count (givenThrough r log c) (numbersThrough c) ≡ 1
+  pub recorder-one : howMany (givenThrough r log c) (numbersThrough c) ≡ 1
   unfolding numbersThrough
   recorder-one =
       one-passes _ (givenThrough r log c) (numbersThrough c) recorder-exact

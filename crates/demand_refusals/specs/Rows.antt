@@ -35,6 +35,6 @@ distinct [] = true
 distinct (n ∷ ns) = not (among n ns) and distinct ns
 
 -- how many of the numbers pass the test
-unfoldable pub count : (ℕ → Bool) → List ℕ → ℕ
-count test [] = 0
-count test (n ∷ ns) = pick (test n) (1 + count test ns) (count test ns)
+unfoldable pub howMany : (ℕ → Bool) → List ℕ → ℕ
+howMany test [] = 0
+howMany test (n ∷ ns) = pick (test n) (1 + howMany test ns) (howMany test ns)

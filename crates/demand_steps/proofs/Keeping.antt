@@ -12,12 +12,12 @@ use Rattle.record.specs.Fields.{withPlace}
 use Rattle.record.specs.declared.Record.{Record}
 use Rattle.step_reports.specs.Done.{onward}
 use Rattle.calls.specs.Calls.{Report}
-use Rattle.demand_steps.specs.Watching.{Item, Watch, lists, reported}
+use Rattle.demand_steps.specs.Watching.{Item, Watch, lists, hearsReport}
 
 -- of the watcher, a report that is seen changes the two lists alone
 pub report-keeps : {A : Type 0} (f : Watch → A) → ((d u : List Item) (w : Watch) → f (lists d u w) ≡ f w) → (of : Report) (t : ℕ) (x : Effect) (a : Said) (w : Watch) →
-    f (reported of t x a w) ≡ f w
-unfolding reported
+    f (hearsReport of t x a w) ≡ f w
+unfolding hearsReport
 report-keeps f same of t (rests answer) a w = refl
 report-keeps f same of t works a w = let P : Watch → Type 0 = λ y. f y ≡ f w in each P _ (each P _ (same _ _ w) (same _ _ w)) refl
 

@@ -11,14 +11,14 @@ use Rattle.record.specs.declared.Refusal.{Refusal}
 use Rattle.calls.specs.Calls.{Report, Call}
 use Rattle.calls.specs.Calls.Work.{structure, update, rollback}
 use Rattle.calls.specs.Calls.Call.{begin, ask, report, edit, commit, recover, recoverRetained, refresh, stamp, check}
-use Rattle.demand_steps.specs.Watching.{Watch, reported, sees}
+use Rattle.demand_steps.specs.Watching.{Watch, hearsReport, sees}
 
 -- an answer to a call that moves nothing
 abbrev pub Unseen : Call → Said → Type 0
 Unseen c s = (w : Watch) → sees w c s ≡ w
 
-report-unseen : (of : Report) (t : ℕ) (x : Effect) (why : Refusal) (w : Watch) → reported of t x (said (refusal why) []) w ≡ w
-unfolding reported pick
+report-unseen : (of : Report) (t : ℕ) (x : Effect) (why : Refusal) (w : Watch) → hearsReport of t x (said (refusal why) []) w ≡ w
+unfolding hearsReport pick
 report-unseen of t (rests answer) why w = refl
 report-unseen of t works why w = refl
 

@@ -129,9 +129,9 @@ abbrev pub askedRollback : Said → Watch → Watch
 askedRollback a w = pick (granted (a .class)) (turns true (w .started) (asked undo a w)) w
 
 -- "Done reports that are taken"
-unfoldable pub reported : Report → ℕ → Effect → Said → Watch → Watch
-reported of ticket (rests answer) a w = w
-reported of ticket works a w = pick (taken (a .class)) (notes (itemOf of ticket w) w) w
+unfoldable pub hearsReport : Report → ℕ → Effect → Said → Watch → Watch
+hearsReport of ticket (rests answer) a w = w
+hearsReport of ticket works a w = pick (taken (a .class)) (notes (itemOf of ticket w) w) w
 
 abbrev pub begins : Bool → ℕ → Said → Watch → Watch
 begins structural size a w = pick (successful (a .class)) (fresh (w .commits) true structural size w) w
@@ -144,7 +144,7 @@ sees w (begin structural b) a = begins structural (b .actions) a w
 sees w (ask structure) a = asked settle a w
 sees w (ask update) a = askedUpdate a w
 sees w (ask rollback) a = askedRollback a w
-sees w (report of t x) a = reported of t (effectOf x) a w
+sees w (report of t x) a = hearsReport of t (effectOf x) a w
 sees w (edit c o) a = w
 sees w commit a = ends (w .commits + 1) a w
 sees w (recover n) a = ends (w .commits) a w

@@ -85,7 +85,8 @@ pub fn replace(
 ) -> Stepped
     ensures { λ s. ⌜ leaves (tells s) (now (accepted .exit) ∷ now (recovery .exit) ∷ now (exchange .exit) ∷ [])
         ≡ moving (tells stepped) (now (accepted .entry) ∷ now (recovery .entry) ∷ now (exchange .entry) ∷ [])
-        (copied (now (recovery .entry)) (now (accepted .entry)) ∷ now (recovery .entry) ∷ copied (now (accepted .entry)) (now (exchange .entry)) ∷ []) ⌝ }
+        (copied (now (recovery .entry)) (now (accepted .entry)) ∷ now (recovery .entry)
+        ∷ copied (now (accepted .entry)) (now (exchange .entry)) ∷ []) ⌝ }
 {
     if stepped.is_refused() {
         return stepped;

@@ -100,12 +100,12 @@ taken (stepping s) = takes s
 abbrev pub is : Refusal → Refusal → Bool
 is this why = eqb (refusalNumber why) (refusalNumber this)
 
-unfoldable pub entered : Refusal → Bool
-entered why = is NotReady why or is Recovering why
+unfoldable pub refusalWritten : Refusal → Bool
+refusalWritten why = is NotReady why or is Recovering why
 
 abbrev pub stepWritten : Class → Bool
 stepWritten performed = false
-stepWritten (refusal why) = entered why
+stepWritten (refusal why) = refusalWritten why
 stepWritten (stepping s) = true
 
 -- "in other calls an event is written only if the inner answer is 0"

@@ -4,7 +4,7 @@ use super::Answer;
 use super::Refusal;
 use super::Stepped;
 ghost use mathlib.Core.Path.{_≡_};
-ghost use Rattle.record.specs.Classes.{refusalNumber, refused, entered, stepWritten};
+ghost use Rattle.record.specs.Classes.{refusalNumber, refused, refusalWritten, stepWritten};
 ghost use Rattle.record.specs.Answers.{says, tells};
 
 impl Refusal {
@@ -29,8 +29,8 @@ impl Refusal {
     }
 
     // Whether an ask that is refused so is written all the same.
-    pub fn is_entered(self) -> bool
-        ensures { λ b. ⌜ b ≡ entered self ⌝ }
+    pub fn is_written(self) -> bool
+        ensures { λ b. ⌜ b ≡ refusalWritten self ⌝ }
     {
         let n = self.number();
         (n == Refusal::NotReady.number()) | (n == Refusal::Recovering.number())
@@ -58,7 +58,7 @@ impl Answer {
     {
         match self {
             Answer::Done(_) => false,
-            Answer::Refused(why) => why.is_entered(),
+            Answer::Refused(why) => why.is_written(),
             Answer::Ticket { number: _, item: _ } => true,
             Answer::Waiting => true,
             Answer::Failed(_) => true,

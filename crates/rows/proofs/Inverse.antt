@@ -14,7 +14,7 @@ use Rattle.record.specs.Live.{noTicket, rollback, workOf, number}
 use Rattle.record.specs.declared.Record.{Record}
 use Rattle.record.specs.declared.Live.{Live}
 use Rattle.record.specs.declared.Live.the-variants.{None, Structure, Update, Rollback}
-use Rattle.rows.specs.Rows.{at, flag, numbersOf, top8, top32, inRanges, liveOf, made, recordOf}
+use Rattle.rows.specs.Rows.{at, flag, rowOf, top8, top32, inRanges, liveOf, made, recordOf}
 use Rattle.rows.specs.declared.Row.the-variants.{Fits, Misfit}
 use Rattle.rows.proofs.Ranges.{Ranged, ranged}
 
@@ -56,21 +56,21 @@ live-back (Structure n) = refl
 live-back (Update n) = refl
 live-back (Rollback n) = refl
 
-in-ranges : (r : Record) → Typed r → inRanges (numbersOf r) ≡ true
-unfolding inRanges numbersOf
+in-ranges : (r : Record) → Typed r → inRanges (rowOf r) ≡ true
+unfolding inRanges rowOf
 in-ranges r t =
     join (join (join (join (join (join (join (join (join (flag-fits (r .staged))
     (le-leb _ _ (t .phase))) (le-leb _ _ (t .forward))) (le-leb _ _ (t .back)))
     (le-leb _ _ (t .entries))) (le-leb _ _ (t .applied))) (le-leb _ _ (t .attempted)))
     (flag-fits (r .restoring))) (work-fits (r .live))) (ticket-fits (r .live))
 
-made-back : (r : Record) → made (numbersOf r) ≡ r
-unfolding numbersOf
+made-back : (r : Record) → made (rowOf r) ≡ r
+unfolding rowOf
 made-back r = simp (flag-back, live-back)
 
 -- the numbers of a record give it back
-pub record-back : (r : Record) → Typed r → recordOf (numbersOf r) ≡ Fits r
-unfolding recordOf numbersOf
+pub record-back : (r : Record) → Typed r → recordOf (rowOf r) ≡ Fits r
+unfolding recordOf rowOf
 record-back r t = sym (yes _ (join refl (in-ranges r t)) (ap Fits (sym (made-back r))))
 
 flag-same : (n : ℕ) → n ≤ 1 → flag (eqb n 1) ≡ n
@@ -97,19 +97,19 @@ unfolding listed
 all-listed [] = refl
 all-listed (n ∷ row) = ap (λ (l : List ℕ). n ∷ l) (all-listed row)
 
-numbers-made : (row : List ℕ) → length row ≡ 15 → Ranged row → numbersOf (made row) ≡ row
-unfolding numbersOf listed
+numbers-made : (row : List ℕ) → length row ≡ 15 → Ranged row → rowOf (made row) ≡ row
+unfolding rowOf listed
 numbers-made row l t =
     let live = live-same (at row 13) (at row 14) (t .work) (t .ticket) in
     simp (flag-same (at row 5) (t .staged), flag-same (at row 12) (t .restoring), live .0, live .1)
     (ap (listed (at row)) (sym l) ∙ all-listed row)
 
 -- a row that gives a record is that record's numbers
-pub numbers-back : (row : List ℕ) (r : Record) → recordOf row ≡ Fits r → numbersOf r ≡ row
+pub numbers-back : (row : List ℕ) (r : Record) → recordOf row ≡ Fits r → rowOf r ≡ row
 unfolding recordOf
 numbers-back row r e =
     test (eqb (length row) 15 and inRanges row)
     (λ h. let fits = both h in
     let same : made row ≡ r = cc (yes {x = Fits (made row)} Misfit h refl) in
-    ap numbersOf (sym same) ∙ numbers-made row (eqb-true _ _ (fits .0)) (ranged row (fits .1)))
+    ap rowOf (sym same) ∙ numbers-made row (eqb-true _ _ (fits .0)) (ranged row (fits .1)))
     (λ h. let z : _≡_ {A = ℕ} 0 1 = cc (no {y = Misfit} (Fits (made row)) h refl) in absurd (omega arith))

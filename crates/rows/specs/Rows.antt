@@ -19,8 +19,8 @@ flag false = 0
 
 -- "revision, serial, lengths of accepted, candidate and recovery, staged (0 or 1), phase, forward, back, entries, applied, attempted,
 -- restoring (0 or 1), kind of live ticket (0 none, 1 structure, 2 update, 3 rollback), its number"
-unfoldable pub numbersOf : Record → List ℕ
-numbersOf r =
+unfoldable pub rowOf : Record → List ℕ
+rowOf r =
     r .revision ∷ r .serial ∷ r .accepted ∷ r .candidate ∷ r .recovery ∷ flag (r .staged) ∷ r .phase .number ∷ r .forward ∷ r .back ∷
     r .entries ∷ r .applied ∷ r .attempted ∷ flag (r .restoring) ∷ workOf (r .live) ∷ number (r .live) ∷ []
 

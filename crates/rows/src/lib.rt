@@ -3,7 +3,7 @@ use phases::Phase;
 use record::Live;
 use record::Record;
 ghost use mathlib.Core.Path.{_≡_};
-ghost use Rattle.rows.specs.Rows.{numbersOf, inRanges, liveOf, recordOf};
+ghost use Rattle.rows.specs.Rows.{rowOf, inRanges, liveOf, recordOf};
 
 // How many numbers a record has.
 pub const FIELDS: usize = 15;
@@ -26,7 +26,7 @@ pub enum Row {
 
 // A number for each field, in the order of the driver's page.
 pub fn numbers(r: Record) -> [u64; FIELDS]
-    ensures { λ row. ⌜ row ≡ numbersOf r ⌝ }
+    ensures { λ row. ⌜ row ≡ rowOf r ⌝ }
 {
     let live = r.live;
     [

@@ -17,11 +17,11 @@ use Rattle.record.specs.declared.Answer.the-variants.{Ticket, Finished}
 use Rattle.record.specs.declared.Refusal.the-variants.{NotReady, Recovering, Worn}
 
 -- "or a ticket: serial plus one, live. Ticket carries it and the phase or the action's number."
-abbrev pub ticketed : Live → ℕ → Record → Told
-ticketed live item r = answer (Ticket (number live) item) (withTicket (number live) live r)
+abbrev pub issued : Live → ℕ → Record → Told
+issued live item r = answer (Ticket (number live) item) (withTicket (number live) live r)
 
 abbrev pub issue : (ℕ → Live) → ℕ → Record → Told
-issue live item r = ticketed (live (r .serial + 1)) item r
+issue live item r = issued (live (r .serial + 1)) item r
 
 -- "11": "the serial is at its maximum"
 abbrev pub worn : Record → Bool

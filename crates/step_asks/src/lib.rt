@@ -9,11 +9,11 @@ use record::Stepped;
 use wholeness::Gate;
 ghost use mathlib.Core.Path.{_≡_};
 ghost use Rattle.record.specs.Answers.{tells};
-ghost use Rattle.step_asks.specs.Asks.{ticketed, askStructureStep, askUpdateStep, askRollbackStep, turned};
+ghost use Rattle.step_asks.specs.Asks.{issued, askStructureStep, askUpdateStep, askRollbackStep, turned};
 
 // The ticket that is given is live, and the serial is its number. It carries the phase, or the action's number.
 fn issue(r: Record, live: Live, item: u32) -> Stepped
-    ensures { λ s. ⌜ tells s ≡ ticketed live item r ⌝ }
+    ensures { λ s. ⌜ tells s ≡ issued live item r ⌝ }
 {
     let number = live.number();
     r.with_ticket(number, live).answering(Answer::Ticket {

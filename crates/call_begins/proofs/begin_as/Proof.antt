@@ -1,4 +1,5 @@
--- `call_begins::begin_as` meets its contract: the step goes by the sizes of all that is lent, and the payloads and the pairs are moved in turn. Assumes nothing.
+-- `call_begins::begin_as` meets its contract: the step goes by the sizes of all that is lent, and payloads and pairs are moved
+-- in turn. Assumes nothing.
 use Rattle.moves.proofs.Laws.{in-turn}
 use Rattle.moves.proofs.Sizes.{by-all}
 use borrow.Author.Needs.{needs}
@@ -14,4 +15,6 @@ returns c =
     (z .before .before .before .is-sized .ensures) (z .before .before .is-sized2 .ensures) (z .before .is-sized3 .ensures) (z .are-pairs .ensures)
 
 pub begin-as-spec : {M : Type 1} → statement M
-begin-as-spec = tie.close (tie.spec (search needs) (search needs) (search needs) (search needs) (search needs) (search needs) (search needs) (search needs) (search needs) (search needs) (search needs) returns)
+begin-as-spec =
+    tie.close (tie.spec (search needs) (search needs) (search needs) (search needs) (search needs) (search needs) (search needs)
+    (search needs) (search needs) (search needs) (search needs) returns)

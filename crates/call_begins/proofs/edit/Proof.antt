@@ -5,4 +5,6 @@ use Rattle.call_begins.proofs.edit.Statement.{statement}
 use Rattle.call_begins.proofs.edit.Tie as tie
 
 pub edit-spec : {M : Type 1} → statement M
-edit-spec = tie.close (tie.spec (search needs) (search needs) (search needs) (search needs) (search needs) (search needs) (search needs) (λ c. search by-areas))
+edit-spec =
+    tie.close (tie.spec (search needs) (search needs) (search needs) (search needs) (search needs)
+    (search needs) (search needs) (λ c. search by-areas))

@@ -7,7 +7,9 @@ use Rattle.call_begins.proofs.open.Tie as tie
 
 returns : tie.Need-returns
 unfolding sized
-returns c = let s = c .before .before .before .before in told-by _ _ (c .before .before .payload .ensures) (rw (s .before .is-sized .ensures) at (s .«open» .ensures))
+returns c =
+    let s = c .before .before .before .before in
+    told-by _ _ (c .before .before .payload .ensures) (rw (s .before .is-sized .ensures) at (s .«open» .ensures))
 
 pub open-spec : {M : Type 1} → statement M
 open-spec = tie.close (tie.spec (search needs) (search needs) (search needs) (search needs) returns)

@@ -5,4 +5,6 @@ use Rattle.call_ends.proofs.commit.Statement.{statement}
 use Rattle.call_ends.proofs.commit.Tie as tie
 
 pub commit-spec : {M : Type 1} → statement M
-commit-spec = tie.close (tie.spec (search needs) (search needs) (search needs) (search needs) (search needs) (search needs) (search needs) (λ c. search crossed))
+commit-spec =
+    tie.close (tie.spec (search needs) (search needs) (search needs) (search needs) (search needs)
+    (search needs) (search needs) (λ c. search crossed))

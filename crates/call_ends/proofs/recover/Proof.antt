@@ -5,4 +5,6 @@ use Rattle.call_ends.proofs.recover.Statement.{statement}
 use Rattle.call_ends.proofs.recover.Tie as tie
 
 pub recover-spec : {M : Type 1} → statement M
-recover-spec = tie.close (tie.spec (search needs) (search needs) (search needs) (search needs) (search needs) (search needs) (search needs) (λ c. search crossed))
+recover-spec =
+    tie.close (tie.spec (search needs) (search needs) (search needs) (search needs) (search needs)
+    (search needs) (search needs) (λ c. search crossed))

@@ -5,4 +5,6 @@ use Rattle.call_ends.proofs.recover_retained.Statement.{statement}
 use Rattle.call_ends.proofs.recover_retained.Tie as tie
 
 pub recover-retained-spec : {M : Type 1} → statement M
-recover-retained-spec = tie.close (tie.spec (search needs) (search needs) (search needs) (search needs) (search needs) (search needs) (search needs) (search needs) (λ c. search replaced))
+recover-retained-spec =
+    tie.close (tie.spec (search needs) (search needs) (search needs) (search needs) (search needs)
+    (search needs) (search needs) (search needs) (λ c. search replaced))

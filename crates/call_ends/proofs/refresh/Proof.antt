@@ -5,4 +5,6 @@ use Rattle.call_ends.proofs.refresh.Statement.{statement}
 use Rattle.call_ends.proofs.refresh.Tie as tie
 
 pub refresh-spec : {M : Type 1} → statement M
-refresh-spec = tie.close (tie.spec (search needs) (search needs) (search needs) (search needs) (search needs) (search needs) (search needs) (λ c. search crossed))
+refresh-spec =
+    tie.close (tie.spec (search needs) (search needs) (search needs) (search needs) (search needs)
+    (search needs) (search needs) (λ c. search crossed))

@@ -8,7 +8,8 @@ returns : tie.Need-returns
 returns c =
     let k = c .before .before in
     let s = k .before .before .before in
-    by-table _ _ _ _ _ (rw (k .before .last .ensures) at (k .store .ensures)) (s .report-rollback .ensures) (s .before .of .ensures) (s .before .before .is-sized .ensures)
+    by-table _ _ _ _ _ (rw (k .before .last .ensures) at (k .store .ensures)) (s .report-rollback .ensures)
+    (s .before .of .ensures) (s .before .before .is-sized .ensures)
 
 pub report-rollback-spec : {M : Type 1} → statement M
 report-rollback-spec = tie.close (tie.spec (search needs) (search needs) (search needs) (search needs) (search needs) (search needs) returns)

@@ -1,7 +1,7 @@
 -- `rows::numbers` meets its contract. Assumes nothing.
 use borrow.Author.Needs.{needs}
 use native.Mathlib.Omega.{arith}
-use Rattle.rows.specs.Rows.{numbersOf}
+use Rattle.rows.specs.Rows.{rowOf}
 use Rattle.rows.proofs.Ranges.{flag-byte}
 use Rattle.rows.proofs.numbers.Statement.{statement}
 use Rattle.rows.proofs.numbers.Tie as tie
@@ -13,7 +13,7 @@ cast-t12 : tie.Need-cast-t12
 cast-t12 c = omega (arith, c .struct-known7 .given)
 
 returns : tie.Need-returns
-unfolding numbersOf
+unfolding rowOf
 returns c = simp (flag-byte, c .before .work .ensures, c .number .ensures)
 
 pub numbers-spec : {M : Type 1} → statement M

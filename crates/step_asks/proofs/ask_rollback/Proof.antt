@@ -13,7 +13,7 @@ use Rattle.record.specs.Answers.{answer}
 use Rattle.record.specs.declared.Answer.the-variants.{Finished}
 use Rattle.record.specs.declared.Live.the-variants.{None, Rollback}
 use Rattle.wholeness.proofs.Passing.{shut, opened}
-use Rattle.step_asks.specs.Asks.{askRollbackOwn, turned, ticketed}
+use Rattle.step_asks.specs.Asks.{askRollbackOwn, turned, issued}
 use borrow.Author.Needs.{needs}
 use Rattle.step_asks.proofs.ask_rollback.Statement.{statement}
 use Rattle.step_asks.proofs.ask_rollback.Tie as tie
@@ -68,7 +68,7 @@ returns-5 c =
     let r = t .before .before .before .args .r in
     opened _ (t .before .before .admit .ensures) (t .enum-told .given .1)
     (no _ (lt-leb _ _ (i .if1 .left)) (no _ (k .if2 .left) (no _ (ne-eqb _ _ (c .before .before .before .before .if3 .left))
-    (c .issue .ensures ∙ ap (ticketed (Rollback (r .serial + 1)) (r .attempted - 1)) (c .before .before .turned2 .ensures)))))
+    (c .issue .ensures ∙ ap (issued (Rollback (r .serial + 1)) (r .attempted - 1)) (c .before .before .turned2 .ensures)))))
 
 pub ask-rollback-spec : {M : Type 1} → statement M
 ask-rollback-spec =

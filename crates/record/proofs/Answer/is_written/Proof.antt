@@ -8,7 +8,7 @@ use Rattle.record.proofs.Answer.is_written.Statement.{statement}
 use Rattle.record.proofs.Answer.is_written.Tie as tie
 
 returns-2 : tie.Need-returns-2
-returns-2 c = c .is-entered .ensures ∙ ap (λ (a : Answer). stepWritten (says a .class)) (sym (c .before .before .self .given .1))
+returns-2 c = c .is-written .ensures ∙ ap (λ (a : Answer). stepWritten (says a .class)) (sym (c .before .before .self .given .1))
 
 pub is-written-spec : {M : Type 1} → statement M
 is-written-spec =
