@@ -55,7 +55,7 @@ unfolding called refusalWritten kindOf writtenAs answered afterSent
 reached r ss = afterSent r ss
 
 unfoldable pub known : Watch → Record → List Sent → Watch
-unfolding reached heardSent W.reported sees watch
+unfolding reached heardSent W.hearsReport sees watch
 known w r ss = watch w (heardSent r ss)
 
 unfoldable pub numbers : Record → List Sent → List ℕ
@@ -73,7 +73,7 @@ unfolding throughLog copied tableSized paired pairsIn stored afterHeld
 heldAfter h ds = afterHeld h ds
 
 unfoldable pub heldSeen : Held → List Doing → Watch
-unfolding heldAfter heardHeld W.reported sees watch unwatched
+unfolding heldAfter heardHeld W.hearsReport sees watch unwatched
 heldSeen h ds = watch unwatched (heardHeld h ds)
 
 -- from an opening at revision 7 and serial 0, with a payload of 3 bytes, which is not refused

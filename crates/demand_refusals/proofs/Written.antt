@@ -25,7 +25,7 @@ use Rattle.demand_refusals.proofs.ExactRefusals.{listed-answer}
 
 -- of what asks and reports are refused, 4 and 5 are written, and of what other calls are, nothing
 refused-step : (c : Class) → refused c ≡ true → stepWritten c ≡ eqb (numberOf c) 4 or eqb (numberOf c) 5
-unfolding Classes.entered
+unfolding Classes.refusalWritten
 refused-step performed h = never (sym h)
 refused-step (refusal why) h = refl
 refused-step (stepping s) h = never (sym h)

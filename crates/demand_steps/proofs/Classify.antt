@@ -72,7 +72,7 @@ module _ (r : Record) where
   -- a report by its outcome: Waiting and Failed, or what Done does
   outcomes : {of : Report} {t n o : ℕ} {done : Told} → Left r (r .accepted) n o → Leaf r (report of t O.Done) done → (x : Outcome) →
       Leaf r (report of t x) (reported (effectOf x) (spent (storing n o r)) done)
-  unfolding reported sees Watching.reported pick
+  unfolding reported sees Watching.hearsReport pick
   outcomes f l O.Waiting = waited (λ w. refl) f
   outcomes f l (O.Failed code) = waited (λ w. refl) f
   outcomes f l O.Done = l
