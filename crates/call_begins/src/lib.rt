@@ -49,7 +49,8 @@ pub fn begin_as(
         actions: pairs.len() / 2,
     };
     let stepped = step_begins::begin(r, found, structural, given);
-    let staged = moves::payloads(stepped, candidate, recovery, new, old);
+    let half = moves::payload(stepped, candidate, new);
+    let staged = moves::payload(half, recovery, old);
     moves::pairs(staged, table, pairs)
 }
 
@@ -94,5 +95,6 @@ pub fn edit(r: Record, candidate: &mut [u8], recovery: &mut [u8], new: &[u8], ol
 {
     let found = Findings::of(areas::is_sized(candidate.len()) & areas::is_sized(recovery.len()));
     let stepped = step_begins::edit(r, found, new.len(), old.len());
-    moves::payloads(stepped, candidate, recovery, new, old)
+    let half = moves::payload(stepped, candidate, new);
+    moves::payload(half, recovery, old)
 }

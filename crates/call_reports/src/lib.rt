@@ -1,7 +1,7 @@
 // The reports, with the payloads that they store.
 use record::Findings;
-use record::Outcome;
 use record::Record;
+use record::Reporting;
 use record::Stepped;
 ghost use mathlib.Core.Path.{_≡_};
 ghost use mathlib.Core.List.{_∷_, []};
@@ -15,35 +15,29 @@ ghost use Rattle.calls.specs.Lending.Stored.{structured, updated, rolledBack};
 // A report of structure work, with both payloads as the work has left them.
 pub fn report_structure(
     r: Record,
+    given: Reporting,
     candidate: &mut [u8],
     recovery: &mut [u8],
-    ticket: u64,
-    outcome: Outcome,
     new: &[u8],
     old: &[u8],
 ) -> Stepped
     ensures { λ s. ⌜ leaves (tells s) (now (candidate .exit) ∷ now (recovery .exit) ∷ [])
         ≡ leavesOf r (report (structured (now (candidate .entry)) (now (recovery .entry)) (now (new .entry)) (now (old .entry)))
-        ticket outcome) ⌝ }
+        (given .ticket) (given .outcome)) ⌝ }
 {
     let found = Findings::of(areas::is_sized(candidate.len()) & areas::is_sized(recovery.len()));
-    let stepped = step_reports::report_structure(r, found, ticket, outcome, new.len(), old.len());
-    moves::payloads(stepped, candidate, recovery, new, old)
+    let stepped = step_reports::report_structure(r, found, given, new.len(), old.len());
+    let half = moves::payload(stepped, candidate, new);
+    moves::payload(half, recovery, old)
 }
 
 // A report of an update, with the payload of the action number applied.
-pub fn report_update(
-    r: Record,
-    table: &mut [u64],
-    ticket: u64,
-    outcome: Outcome,
-    payload: u64,
-) -> Stepped
+pub fn report_update(r: Record, given: Reporting, table: &mut [u64], payload: u64) -> Stepped
     ensures { λ s. ⌜ leaves (tells s) (now (table .exit) ∷ [])
-        ≡ leavesOf r (report (updated (now (table .entry)) payload) ticket outcome) ⌝ }
+        ≡ leavesOf r (report (updated (now (table .entry)) payload) (given .ticket) (given .outcome)) ⌝ }
 {
     let found = Findings::of(batch::is_sized(table.len()));
-    let stepped = step_reports::report_update(r, found, ticket, outcome);
+    let stepped = step_reports::report_update(r, found, given);
     moves::store(stepped, table, r.applied, payload)
 }
 
@@ -55,17 +49,11 @@ fn last(entries: u32) -> u32
 }
 
 // A report of an undoing, with the payload of the last action.
-pub fn report_rollback(
-    r: Record,
-    table: &mut [u64],
-    ticket: u64,
-    outcome: Outcome,
-    payload: u64,
-) -> Stepped
+pub fn report_rollback(r: Record, given: Reporting, table: &mut [u64], payload: u64) -> Stepped
     ensures { λ s. ⌜ leaves (tells s) (now (table .exit) ∷ [])
-        ≡ leavesOf r (report (rolledBack (now (table .entry)) payload) ticket outcome) ⌝ }
+        ≡ leavesOf r (report (rolledBack (now (table .entry)) payload) (given .ticket) (given .outcome)) ⌝ }
 {
     let found = Findings::of(batch::is_sized(table.len()));
-    let stepped = step_reports::report_rollback(r, found, ticket, outcome);
+    let stepped = step_reports::report_rollback(r, found, given);
     moves::store(stepped, table, last(r.entries), payload)
 }

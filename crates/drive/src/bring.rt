@@ -9,14 +9,24 @@ use super::held::words_of;
 use record::Opening;
 use record::Outcome;
 use record::Record;
+use record::Reporting;
 use record::Stepped;
 
 // The outcome of a number that the template holds to 0, 1 or 2; the code is that of a failure.
-pub(crate) fn outcome(number: u64, code: u64) -> Outcome {
+fn outcome(number: u64, code: u64) -> Outcome {
     match number {
         0 => Outcome::Waiting,
         1 => Outcome::Failed(code),
         _ => Outcome::Done,
+    }
+}
+
+// What a report is given: its ticket, and its outcome with the code.
+pub(crate) fn reporting(numbers: [u64; NUMBERS]) -> Reporting {
+    let outcome = outcome(numbers[1], numbers[2]);
+    Reporting {
+        ticket: numbers[0],
+        outcome: outcome,
     }
 }
 
@@ -76,14 +86,13 @@ pub(crate) fn report_structure(
     c: &mut [u8],
     r: &mut [u8],
 ) -> Stepped {
-    let ticket = numbers[0];
-    let outcome = outcome(numbers[1], numbers[2]);
+    let given = reporting(numbers);
     let mut first = [0u8; AREA_HELD];
     let mut second = [0u8; AREA_HELD];
     let new = payload(&mut first, numbers[3], numbers[4]);
     let old = payload(&mut second, numbers[5], numbers[6]);
     if l.len() == 0 {
-        return transaction::report_structure(record, c, r, ticket, outcome, new, old);
+        return transaction::report_structure(record, given, c, r, new, old);
     }
-    recorder::report_structure(record, l, c, r, ticket, outcome, new, old)
+    recorder::report_structure(record, given, l, c, r, new, old)
 }

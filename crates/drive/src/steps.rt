@@ -2,7 +2,7 @@
 // they go to the transaction itself, and where one is lent to the recorder. The status calls stand here too: they never go through it.
 // Areas go by the letters of a script: a accepted, c candidate, r recovery, x exchange, t the table, l the log, g groups, s status.
 use super::NUMBERS;
-use super::bring::outcome;
+use super::bring::reporting;
 use super::commands::Exchanging;
 use super::commands::Marking;
 use super::commands::Work;
@@ -38,19 +38,18 @@ pub(crate) fn report(
     l: &mut [u64],
     t: &mut [u64],
 ) -> Stepped {
-    let ticket = numbers[0];
-    let outcome = outcome(numbers[1], numbers[2]);
+    let given = reporting(numbers);
     let payload = numbers[3];
     if let Work::Rollback = which {
         if l.len() == 0 {
-            return transaction::report_rollback(record, t, ticket, outcome, payload);
+            return transaction::report_rollback(record, given, t, payload);
         }
-        return recorder::report_rollback(record, l, t, ticket, outcome, payload);
+        return recorder::report_rollback(record, given, l, t, payload);
     }
     if l.len() == 0 {
-        return transaction::report_update(record, t, ticket, outcome, payload);
+        return transaction::report_update(record, given, t, payload);
     }
-    recorder::report_update(record, l, t, ticket, outcome, payload)
+    recorder::report_update(record, given, l, t, payload)
 }
 
 pub(crate) fn exchange(

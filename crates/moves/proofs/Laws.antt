@@ -1,8 +1,9 @@
 -- The two ways in which a call ends: refused, with all that was lent as it was; or not, with what was moved. Assumes nothing.
 use Prim.Native.Nat.{ℕ}
 use mathlib.Core.Path.{_≡_, refl, ap, _∙_}
-use mathlib.Core.Bool.{Bool, true, false}
+use mathlib.Core.Bool.{Bool, true, false, not}
 use mathlib.Core.List.{List, [], _∷_, _++_}
+use borrow.Author.Tests.{not-true, not-false}
 use Rattle.choice.specs.Pick.{pick}
 use Rattle.choice.proofs.Picks.{yes, no, told}
 use Rattle.record.specs.Classes.{refused}
@@ -12,11 +13,11 @@ use borrow.Author.Needs.{needs}
 
 -- what a step told was asked whether it is a refusal
 module _ (t : Told) {b : Bool} (q : b ≡ refused (t .class)) where
-  pub stays : {lent : List (List ℕ)} (moved : List (List ℕ)) → b ≡ true → leaves t lent ≡ moving t lent moved
-  stays moved h = ap (leaves t) (yes moved (told q h) refl)
+  pub stays : {lent : List (List ℕ)} (moved : List (List ℕ)) → not b ≡ false → leaves t lent ≡ moving t lent moved
+  stays moved h = ap (leaves t) (yes moved (told q (not-false b h)) refl)
 
-  pub moves : {now moved : List (List ℕ)} (lent : List (List ℕ)) → b ≡ false → now ≡ moved → leaves t now ≡ moving t lent moved
-  moves lent h p = ap (leaves t) (no lent (told q h) p)
+  pub moves : {now moved : List (List ℕ)} (lent : List (List ℕ)) → not b ≡ true → now ≡ moved → leaves t now ≡ moving t lent moved
+  moves lent h p = ap (leaves t) (no lent (told q (not-true b h)) p)
 
 -- areas one by one
 pub three : {a a' b b' c c' : List ℕ} → a ≡ a' → b ≡ b' → c ≡ c' → a ∷ b ∷ c ∷ [] ≡ a' ∷ b' ∷ c' ∷ []

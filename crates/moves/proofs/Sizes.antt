@@ -21,7 +21,7 @@ use Rattle.wholeness.specs.Gates.{gateOf, gated}
 use Rattle.wholeness.specs.declared.Gate.{Gate}
 use Rattle.wholeness.specs.declared.Gate.the-variants.{Open, Shut}
 use Rattle.wholeness.proofs.Passing.{passed}
-use Rattle.moves.proofs.Laws.{three}
+use Rattle.moves.proofs.Laws.{three, in-turn}
 
 unless : {A : Type 0} (b : Bool) (x : A) {y z : A} → (b ≡ false → y ≡ z) → pick b x y ≡ pick b x z
 unfolding pick
@@ -62,7 +62,7 @@ module _ (r : Record) (own : Told) where
     asked fit lent moved e s h = told-by lent moved e (s ∙ ap by h)
 
     -- by the sizes of two areas, of the table, and of all that a begin is lent
-    pub by-areas : {p q : Bool} (a b : List ℕ) (lent moved : List (List ℕ)) → x ≡ moving t lent moved → t ≡ by f → f ≡ ofSizes (p && q)
+    by-areas : {p q : Bool} (a b : List ℕ) (lent moved : List (List ℕ)) → x ≡ moving t lent moved → t ≡ by f → f ≡ ofSizes (p && q)
         → Area p a → Area q b → x ≡ moving (fitting (sized a and sized b)) lent moved
     unfolding sized _and_
     by-areas a b lent moved e s h u v = asked _ _ _ e s (h ∙ cc)
@@ -90,3 +90,9 @@ module _ (r : Record) (own : Told) where
     replaced a o b e s h i j k =
         asked _ _ _ e s (h ∙ cc)
         ∙ same _ _ (λ z. let l = same-sizes a o b z in three (copied-whole o a (l .0)) refl (copied-whole a b (l .1)))
+
+  -- two areas that are moved in turn
+  pub both-areas : {t s u : Told} {f : Findings} {p q : Bool} {after after' : List ℕ} (a b m n : List ℕ) → leaves s (after ∷ []) ≡ moving t (a ∷ []) (m ∷ [])
+      → leaves u (after' ∷ []) ≡ moving s (b ∷ []) (n ∷ []) → t ≡ by f → f ≡ ofSizes (p && q) → Area p a → Area q b
+      → leaves u (after ∷ after' ∷ []) ≡ moving (fitting (sized a and sized b)) (a ∷ b ∷ []) (m ∷ n ∷ [])
+  both-areas a b m n e e' = by-areas a b _ _ (in-turn _ _ _ _ e e')

@@ -9,89 +9,59 @@ ghost use Rattle.record.specs.Answers.{tells};
 ghost use Rattle.record.specs.Leaves.{leaves, moving};
 
 // A payload is copied into an area.
-pub fn payload(stepped: Stepped, area: &mut [u8], payload: &[u8]) -> Stepped
+pub fn payload(step: Stepped, area: &mut [u8], payload: &[u8]) -> Stepped
     ensures { λ s. ⌜ leaves (tells s) (now (area .exit) ∷ [])
-        ≡ moving (tells stepped) (now (area .entry) ∷ []) (copied (now (payload .entry)) (now (area .entry)) ∷ []) ⌝ }
+        ≡ moving (tells step) (now (area .entry) ∷ []) (copied (now (payload .entry)) (now (area .entry)) ∷ []) ⌝ }
 {
-    if stepped.is_refused() {
-        return stepped;
+    if !step.is_refused() {
+        areas::copy_bytes(area, payload);
     }
-    areas::copy_bytes(area, payload);
-    stepped
-}
-
-// A candidate payload (`new`) and a recovery payload (`old`) are copied into their areas.
-pub fn payloads(
-    stepped: Stepped,
-    candidate: &mut [u8],
-    recovery: &mut [u8],
-    new: &[u8],
-    old: &[u8],
-) -> Stepped
-    ensures { λ s. ⌜ leaves (tells s) (now (candidate .exit) ∷ now (recovery .exit) ∷ [])
-        ≡ moving (tells stepped) (now (candidate .entry) ∷ now (recovery .entry) ∷ [])
-        (copied (now (new .entry)) (now (candidate .entry)) ∷ copied (now (old .entry)) (now (recovery .entry)) ∷ []) ⌝ }
-{
-    if stepped.is_refused() {
-        return stepped;
-    }
-    areas::copy_bytes(candidate, new);
-    areas::copy_bytes(recovery, old);
-    stepped
+    step
 }
 
 // The pairs of a batch are put into the table.
-pub fn pairs(stepped: Stepped, table: &mut [u64], pairs: &[u64]) -> Stepped
+pub fn pairs(step: Stepped, table: &mut [u64], pairs: &[u64]) -> Stepped
     ensures { λ s. ⌜ leaves (tells s) (now (table .exit) ∷ [])
-        ≡ moving (tells stepped) (now (table .entry) ∷ []) (pairsIn (now (pairs .entry)) (now (table .entry)) ∷ []) ⌝ }
+        ≡ moving (tells step) (now (table .entry) ∷ []) (pairsIn (now (pairs .entry)) (now (table .entry)) ∷ []) ⌝ }
 {
-    if stepped.is_refused() {
-        return stepped;
+    if !step.is_refused() {
+        batch::put_pairs(table, pairs);
     }
-    batch::put_pairs(table, pairs);
-    stepped
+    step
 }
 
 // The payload of one action is stored in the table.
-pub fn store(stepped: Stepped, table: &mut [u64], action: u32, payload: u64) -> Stepped
+pub fn store(step: Stepped, table: &mut [u64], action: u32, payload: u64) -> Stepped
     ensures { λ s. ⌜ leaves (tells s) (now (table .exit) ∷ [])
-        ≡ moving (tells stepped) (now (table .entry) ∷ []) (stored action payload (now (table .entry)) ∷ []) ⌝ }
+        ≡ moving (tells step) (now (table .entry) ∷ []) (stored action payload (now (table .entry)) ∷ []) ⌝ }
 {
-    if stepped.is_refused() {
-        return stepped;
+    if !step.is_refused() {
+        batch::store(table, action, payload);
     }
-    batch::store(table, action, payload);
-    stepped
+    step
 }
 
 // Two areas change places.
-pub fn exchange(stepped: Stepped, a: &mut [u8], b: &mut [u8]) -> Stepped
+pub fn exchange(step: Stepped, a: &mut [u8], b: &mut [u8]) -> Stepped
     ensures { λ s. ⌜ leaves (tells s) (now (a .exit) ∷ now (b .exit) ∷ [])
-        ≡ moving (tells stepped) (now (a .entry) ∷ now (b .entry) ∷ []) (exchanged (now (a .entry)) (now (b .entry))) ⌝ }
+        ≡ moving (tells step) (now (a .entry) ∷ now (b .entry) ∷ []) (exchanged (now (a .entry)) (now (b .entry))) ⌝ }
 {
-    if stepped.is_refused() {
-        return stepped;
+    if !step.is_refused() {
+        areas::exchange(a, b);
     }
-    areas::exchange(a, b);
-    stepped
+    step
 }
 
 // The accepted area is copied into the exchange area, and then the recovery area into the accepted one.
-pub fn replace(
-    stepped: Stepped,
-    accepted: &mut [u8],
-    recovery: &[u8],
-    exchange: &mut [u8],
-) -> Stepped
+pub fn replace(step: Stepped, accepted: &mut [u8], recovery: &[u8], exchange: &mut [u8]) -> Stepped
     ensures { λ s. ⌜ leaves (tells s) (now (accepted .exit) ∷ now (recovery .exit) ∷ now (exchange .exit) ∷ [])
-        ≡ moving (tells stepped) (now (accepted .entry) ∷ now (recovery .entry) ∷ now (exchange .entry) ∷ [])
+        ≡ moving (tells step) (now (accepted .entry) ∷ now (recovery .entry) ∷ now (exchange .entry) ∷ [])
         (copied (now (recovery .entry)) (now (accepted .entry)) ∷ now (recovery .entry)
         ∷ copied (now (accepted .entry)) (now (exchange .entry)) ∷ []) ⌝ }
 {
-    if stepped.is_refused() {
-        return stepped;
+    if !step.is_refused() {
+        areas::copy_bytes(exchange, accepted);
+        areas::copy_bytes(accepted, recovery);
     }
-    areas::copy_bytes(exchange, accepted);
-    areas::copy_bytes(accepted, recovery);
-    stepped
+    step
 }

@@ -59,11 +59,7 @@ impl Answer {
         match self {
             Answer::Done(_) => false,
             Answer::Refused(why) => why.is_written(),
-            Answer::Ticket { number: _, item: _ } => true,
-            Answer::Waiting => true,
-            Answer::Failed(_) => true,
-            Answer::More => true,
-            Answer::Finished => true,
+            _ => true,
         }
     }
 }

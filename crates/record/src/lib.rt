@@ -36,6 +36,12 @@ pub struct Record {
     pub live: Live,
 }
 
+// What was found of all that a call is lent together: that every size is right, and that what is read in it is sound.
+pub struct Findings {
+    pub sized: bool,
+    pub sound: bool,
+}
+
 // What an opening is given besides its payload.
 pub struct Opening {
     pub revision: u64,
@@ -49,17 +55,17 @@ pub struct Beginning {
     pub actions: usize,
 }
 
-// What was found of all that a call is lent together: that every size is right, and that what is read in it is sound.
-pub struct Findings {
-    pub sized: bool,
-    pub sound: bool,
-}
-
 // What became of the work that a ticket was given for.
 pub enum Outcome {
     Waiting,
     Failed(u64),
     Done,
+}
+
+// What a report is given besides what it stores: its ticket, and what became of the work.
+pub struct Reporting {
+    pub ticket: u64,
+    pub outcome: Outcome,
 }
 
 pub enum Refusal {

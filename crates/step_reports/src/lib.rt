@@ -9,6 +9,7 @@ use record::Findings;
 use record::Outcome;
 use record::Record;
 use record::Refusal;
+use record::Reporting;
 use record::Stepped;
 pub use rollback::report_rollback;
 pub use structure::report_structure;
@@ -22,17 +23,18 @@ ghost use Rattle.step_reports.specs.Reports.{stale, reported};
 ghost use Rattle.wholeness.specs.Gates.{gateOf, through};
 
 // The refusals that every call begins with, and then a ticket that is not the live one of its kind.
-fn report_gate(r: Record, found: Findings, work: u8, ticket: u64) -> Gate
-    ensures { λ g. ⌜ g ≡ through (gateOf (found .sized) (found .sound) r) (stale work ticket r []) ⌝ }
+fn report_gate(r: Record, found: Findings, work: u8, given: Reporting) -> Gate
+    ensures { λ g. ⌜ g ≡ through (gateOf (found .sized) (found .sound) r) (stale work (given .ticket) r []) ⌝ }
 {
     let live = r.live;
-    wholeness::admit(r, found).bar(!live.is(work, ticket), Refusal::Stale)
+    wholeness::admit(r, found).bar(!live.is(work, given.ticket), Refusal::Stale)
 }
 
 // A report that is taken: Waiting and Failed do nothing else, and Done is what it would do.
-fn reported(r: Record, outcome: Outcome, done: Stepped) -> Stepped
-    ensures { λ s. ⌜ tells s ≡ reported (effectOf outcome) r (tells done) ⌝ }
+fn reported(r: Record, given: Reporting, done: Stepped) -> Stepped
+    ensures { λ s. ⌜ tells s ≡ reported (effectOf (given .outcome)) r (tells done) ⌝ }
 {
+    let outcome = given.outcome;
     match outcome {
         Outcome::Waiting => r.answering(Answer::Waiting),
         Outcome::Failed(code) => r.answering(Answer::Failed(code)),

@@ -5,8 +5,8 @@ use phases::Phase;
 use record::Answer;
 use record::Findings;
 use record::Live;
-use record::Outcome;
 use record::Record;
+use record::Reporting;
 use record::Stepped;
 use wholeness::Gate;
 ghost use mathlib.Core.Path.{_≡_};
@@ -47,13 +47,13 @@ fn rollback_done(mut r: Record) -> Stepped
 }
 
 // A report of the undoing of the last action.
-pub fn report_rollback(r: Record, found: Findings, ticket: u64, outcome: Outcome) -> Stepped
-    ensures { λ s. ⌜ tells s ≡ reportRollbackStep (found .sized) (found .sound) r ticket outcome ⌝ }
+pub fn report_rollback(r: Record, found: Findings, given: Reporting) -> Stepped
+    ensures { λ s. ⌜ tells s ≡ reportRollbackStep (found .sized) (found .sound) r (given .ticket) (given .outcome) ⌝ }
 {
-    let gate = report_gate(r, found, Live::ROLLBACK, ticket);
+    let gate = report_gate(r, found, Live::ROLLBACK, given);
     if let Gate::Shut(why) = gate {
         return r.refuse(why);
     }
     let spent = r.with_ticket(r.serial, Live::None);
-    reported(spent, outcome, rollback_done(spent))
+    reported(spent, given, rollback_done(spent))
 }

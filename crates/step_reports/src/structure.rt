@@ -6,8 +6,8 @@ use phases::Phase;
 use record::Answer;
 use record::Findings;
 use record::Live;
-use record::Outcome;
 use record::Record;
+use record::Reporting;
 use record::Stepped;
 use wholeness::Gate;
 ghost use mathlib.Core.Path.{_≡_};
@@ -51,14 +51,13 @@ fn structure_done(r: Record) -> Stepped
 pub fn report_structure(
     r: Record,
     found: Findings,
-    ticket: u64,
-    outcome: Outcome,
+    given: Reporting,
     candidate: usize,
     recovery: usize,
 ) -> Stepped
-    ensures { λ s. ⌜ tells s ≡ reportStructureStep (found .sized) (found .sound) r ticket outcome candidate recovery ⌝ }
+    ensures { λ s. ⌜ tells s ≡ reportStructureStep (found .sized) (found .sound) r (given .ticket) (given .outcome) candidate recovery ⌝ }
 {
-    let gate = report_gate(r, found, Live::STRUCTURE, ticket).bar_payloads(candidate, recovery);
+    let gate = report_gate(r, found, Live::STRUCTURE, given).bar_payloads(candidate, recovery);
     if let Gate::Shut(why) = gate {
         return r.refuse(why);
     }
@@ -66,5 +65,5 @@ pub fn report_structure(
     stored.candidate = candidate;
     stored.recovery = recovery;
     let spent = stored.with_ticket(r.serial, Live::None);
-    reported(spent, outcome, structure_done(spent))
+    reported(spent, given, structure_done(spent))
 }

@@ -4,8 +4,8 @@ use super::reported;
 use record::Answer;
 use record::Findings;
 use record::Live;
-use record::Outcome;
 use record::Record;
+use record::Reporting;
 use record::Stepped;
 use wholeness::Gate;
 ghost use mathlib.Core.Path.{_≡_};
@@ -28,13 +28,13 @@ fn update_done(mut r: Record) -> Stepped
 }
 
 // A report of the update of the action number applied.
-pub fn report_update(r: Record, found: Findings, ticket: u64, outcome: Outcome) -> Stepped
-    ensures { λ s. ⌜ tells s ≡ reportUpdateStep (found .sized) (found .sound) r ticket outcome ⌝ }
+pub fn report_update(r: Record, found: Findings, given: Reporting) -> Stepped
+    ensures { λ s. ⌜ tells s ≡ reportUpdateStep (found .sized) (found .sound) r (given .ticket) (given .outcome) ⌝ }
 {
-    let gate = report_gate(r, found, Live::UPDATE, ticket);
+    let gate = report_gate(r, found, Live::UPDATE, given);
     if let Gate::Shut(why) = gate {
         return r.refuse(why);
     }
     let spent = r.with_ticket(r.serial, Live::None);
-    reported(spent, outcome, update_done(spent))
+    reported(spent, given, update_done(spent))
 }

@@ -5,6 +5,7 @@ use libc::STDOUT_FILENO;
 use record::Opening;
 use record::Outcome;
 use record::Record;
+use record::Reporting;
 use record::Stepped;
 use step_stamps::Checked;
 use step_stamps::Stamping;
@@ -32,6 +33,14 @@ fn verdict(checked: Checked) {
     }
 }
 
+// A report that the work of a ticket is done.
+fn done(ticket: u64) -> Reporting {
+    Reporting {
+        ticket: ticket,
+        outcome: Outcome::Done,
+    }
+}
+
 // A reload of one action, with a report that comes late.
 fn reload(
     start: Record,
@@ -53,9 +62,9 @@ fn reload(
     let r = said(b"begin, one action", begun);
     let r = said(b"ask update: ticket 1", transaction::ask_update(r));
     let r = said(b"ask update again: ticket 2", transaction::ask_update(r));
-    let late = transaction::report_update(r, table, 1, Outcome::Done, 11);
+    let late = transaction::report_update(r, done(1), table, 11);
     let r = said(b"late report of ticket 1", late);
-    let taken = transaction::report_update(r, table, 2, Outcome::Done, 11);
+    let taken = transaction::report_update(r, done(2), table, 11);
     let r = said(b"report of ticket 2", taken);
     said(b"commit", transaction::commit(r, accepted, candidate))
 }

@@ -8,13 +8,15 @@ use Rattle.call_begins.proofs.begin_as.Tie as tie
 
 returns : tie.Need-returns
 returns c =
-    let k = c .before .before .before .before .before .before .before .before in
-    let s = k .before .before .before in
+    let h = c .before .before .before .before .before .before in
+    let k = h .before .before .before .before in
+    let s = k .before .before in
     let z = s .before .before in
-    by-all _ _ _ _ _ _ _ _ (in-turn _ _ _ _ (k .payloads .ensures) (c .before .before .pairs .ensures)) (s .begin .ensures) (s .before .of .ensures)
+    by-all _ _ _ _ _ _ _ _ (in-turn _ _ _ _ (in-turn _ _ _ _ (k .payload .ensures) (h .payload2 .ensures)) (c .before .before .pairs .ensures))
+    (s .begin .ensures) (s .before .of .ensures)
     (z .before .before .before .is-sized .ensures) (z .before .before .is-sized2 .ensures) (z .before .is-sized3 .ensures) (z .are-pairs .ensures)
 
 pub begin-as-spec : {M : Type 1} → statement M
 begin-as-spec =
-    tie.close (tie.spec (search needs) (search needs) (search needs) (search needs) (search needs) (search needs) (search needs)
-    (search needs) (search needs) (search needs) (search needs) returns)
+    tie.close (tie.spec (search needs) (search needs) (search needs) (search needs) (search needs) (search needs) (search needs) (search needs) (search needs)
+    (search needs) (search needs) (search needs) returns)

@@ -13,13 +13,13 @@ unfolding reportRollbackOwn
 returns c =
     let k = c .before .before .before .before in
     let a = k .before .args in
-    barred-out _ (reportRollbackBars (a .r) (a .ticket)) (k .report-gate .ensures) (a .r) _ (c .before .before .gate .given .1) (c .refuse .ensures)
+    barred-out _ (reportRollbackBars (a .r) (a .given .ticket)) (k .report-gate .ensures) (a .r) _ (c .before .before .gate .given .1) (c .refuse .ensures)
 
 rollback-done-requires : tie.Need-rollback-done-requires
 rollback-done-requires c κs =
     let k = c .before .before .before in
     let a = k .before .args in
-    rw (c .with-ticket .ensures) (rollback-room _ _ (a .r) (a .ticket) (k .report-gate .ensures) (c .before .enum-told .given .1))
+    rw (c .with-ticket .ensures) (rollback-room _ _ (a .r) (a .given .ticket) (k .report-gate .ensures) (c .before .enum-told .given .1))
 
 returns-2 : tie.Need-returns-2
 unfolding reportRollbackOwn
@@ -27,8 +27,8 @@ returns-2 c =
     let w = c .before .before in
     let k = w .before .before .before in
     let a = k .before .args in
-    let-in _ (reportRollbackBars (a .r) (a .ticket)) (k .report-gate .ensures) (a .r) (w .before .enum-told .given .1)
-    (taking rollbackDone (effectOf (a .outcome)) (c .reported .ensures) (c .before .rollback-done .ensures) (w .with-ticket .ensures))
+    let-in _ (reportRollbackBars (a .r) (a .given .ticket)) (k .report-gate .ensures) (a .r) (w .before .enum-told .given .1)
+    (taking rollbackDone (effectOf (a .given .outcome)) (c .reported .ensures) (c .before .rollback-done .ensures) (w .with-ticket .ensures))
 
 pub report-rollback-spec : {M : Type 1} → statement M
 report-rollback-spec =

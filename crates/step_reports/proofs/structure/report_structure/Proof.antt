@@ -15,7 +15,7 @@ unfolding reportStructureOwn
 returns c =
     let k = c .before .before .before .before in
     let a = k .before .before .args in
-    barred-out _ (reportStructureBars (a .r) (a .ticket) (a .candidate) (a .recovery))
+    barred-out _ (reportStructureBars (a .r) (a .given .ticket) (a .candidate) (a .recovery))
     (next-row (longPayloads (a .candidate) (a .recovery) []) (k .bar-payloads .ensures) (k .before .report-gate .ensures)) (a .r) _
     (c .before .before .gate .given .1) (c .refuse .ensures)
 
@@ -24,7 +24,7 @@ structure-done-requires c κs =
     let k = c .before .before .before in
     let a = k .before .before .args in
     rw (c .with-ticket .ensures)
-    (structure-room _ _ (a .r) (reportStructureBars (a .r) (a .ticket) (a .candidate) (a .recovery))
+    (structure-room _ _ (a .r) (reportStructureBars (a .r) (a .given .ticket) (a .candidate) (a .recovery))
     (next-row (longPayloads (a .candidate) (a .recovery) []) (k .bar-payloads .ensures) (k .before .report-gate .ensures)) (c .before .enum-told .given .1))
 
 returns-2 : tie.Need-returns-2
@@ -33,10 +33,10 @@ returns-2 c =
     let w = c .before .before in
     let k = w .before .before .before in
     let a = k .before .before .args in
-    let-in _ (reportStructureBars (a .r) (a .ticket) (a .candidate) (a .recovery))
+    let-in _ (reportStructureBars (a .r) (a .given .ticket) (a .candidate) (a .recovery))
     (next-row (longPayloads (a .candidate) (a .recovery) []) (k .bar-payloads .ensures) (k .before .report-gate .ensures)) (a .r)
     (w .before .enum-told .given .1)
-    (taking structureDone (effectOf (a .outcome)) (c .reported .ensures) (c .before .structure-done .ensures) (w .with-ticket .ensures))
+    (taking structureDone (effectOf (a .given .outcome)) (c .reported .ensures) (c .before .structure-done .ensures) (w .with-ticket .ensures))
 
 pub report-structure-spec : {M : Type 1} → statement M
 report-structure-spec =
