@@ -85,24 +85,5 @@ returns-2 c =
 pub copy-bytes-spec : {M : Type 1} → statement M
 copy-bytes-spec =
     tie.close
-    (tie.spec
-    Inv-loop
-    μ-loop
-    Inv-loop2
-    μ-loop2
-    returns
-    loop-holds
-    sub-loop
-    block-at-requires
-    put-block-requires
-    add-i
-    loop-less
-    loop-again
-    loop2-holds
-    shared-slice-read-dst
-    slice-write-dst
-    add-i-2
-    loop2-less
-    loop2-again
-    same-length
-    returns-2)
+    (tie.spec Inv-loop μ-loop Inv-loop2 μ-loop2 returns loop-holds sub-loop block-at-requires put-block-requires add-i loop-less loop-again
+    loop2-holds shared-slice-read-dst slice-write-dst add-i-2 loop2-less loop2-again same-length returns-2)

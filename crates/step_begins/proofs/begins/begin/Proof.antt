@@ -1,6 +1,6 @@
 -- `step_begins::begins::begin` meets its contract. Assumes nothing.
 use Prim.Native.Nat.{ℕ}
-use mathlib.Core.Path.{_≡_, sym, _∙_, ap}
+use mathlib.Core.Path.{sym, _∙_, ap}
 use Rattle.choice.proofs.Tests.{tests}
 use Rattle.record.specs.Answers.{answer}
 use Rattle.record.specs.declared.Answer.the-variants.{Done}

@@ -1,6 +1,5 @@
 -- `step_begins::begins::begin_gate` meets its contract. Assumes nothing.
 use mathlib.Core.List.{[]}
-use Rattle.areas.specs.Areas.{long}
 use Rattle.choice.specs.Pick.{_or_}
 use Rattle.wholeness.specs.Gates.{longPayloads}
 use Rattle.wholeness.proofs.Passing.{next, next-row}

@@ -1,6 +1,6 @@
 -- `step_begins::opens::open` meets its contract. Assumes nothing.
 use mathlib.Core.List.{[]}
-use mathlib.Core.Path.{_≡_, refl, _∙_, ap}
+use mathlib.Core.Path.{_∙_, ap}
 use Rattle.record.specs.Answers.{answer, refuse}
 use Rattle.record.specs.declared.Answer.the-variants.{Done}
 use Rattle.record.specs.declared.Was.the-variants.{Nothing}
