@@ -12,9 +12,10 @@ use Rattle.record.specs.{Classes.Class, Classes.Class.refusal, Answers.Told, An
 use Rattle.record.specs.{declared.Was.the-variants.Three, declared.Refusal.the-variants.Idle, declared.Refusal.the-variants.NotReady}
 use Rattle.wholeness.specs.{Whole.whole, Whole.complete, Gates.Bar, Gates.barring, Gates.longSnapshot}
 use Rattle.wholeness.proofs.Passing.{Clear}
-use Rattle.step_ends.specs.Ending.{idleAt, commitBars, commitOwn, unrestored, recoverBars, recoveredTo, recoverOwn, recoverRetainedOwn}
+use Rattle.record.specs.Given.{opening}
+use Rattle.step_ends.specs.Ending.{afterCommit, commitBars, commitOwn, unrestored, recoverBars, recoveredTo, recoverOwn, recoverRetainedOwn}
 use Rattle.calls.specs.{Calls.Call, Calls.step, Calls.Call.commit, Calls.Call.recover, Calls.Call.recoverRetained}
-use Rattle.demand_steps.proofs.{Own.own, Reading.whole-facts, Testing.ranges, Reopening.after-commit-opens}
+use Rattle.demand_steps.proofs.{Own.own, Reading.whole-facts, Testing.ranges}
 use Rattle.clauses.specs.{Keeping.gained, Gaps.RecoverAnswer}
 use Rattle.clauses.specs.Ending.{CanCommit, Committed, CommitClauses, CanRecover, Recovered, RecoverClauses}
 use Rattle.clauses.proofs.Splitting.{nor, Each, Decided, decides, only, denied, keeps, still-whole, settled}
@@ -44,12 +45,12 @@ module _ (r : Record) (m : r .revision ≤ top) (w : whole r ≡ true) where
   can-commit : Clear (commitBars r) → CanCommit r
   can-commit x = let y = neither (x .1 .0) in record { staged = not-false _ (x .0); complete = not-false _ (y .0); place = not-false _ (y .1) }
 
-  committed : Decided r (Unready r) (answer (Done (Three (r .accepted) (r .recovery) (r .entries))) (idleAt (r .revision + 1) (r .candidate) r)) (commitBars r) (step r commit)
+  committed : Decided r (Unready r) (answer (Done (Three (r .accepted) (r .recovery) (r .entries))) (opening (afterCommit r) (r .candidate))) (commitBars r) (step r commit)
   unfolding own commitOwn
   committed = settled r commit (commitBars r) w refl (is-idle r, λ e₁. (λ e. is-staged r e₁, λ e₂. refl))
 
   pub commit-clauses : CommitClauses r (step r commit)
-  unfolding idleAt
+  unfolding opening
   commit-clauses = record {
     c189 = still-whole r m w commit;
     c190 = decides committed refl can-commit (λ y. (ap not (y .staged), (nor (ap not (y .complete)) (ap not (y .place)), refl)));
@@ -62,7 +63,7 @@ module _ (r : Record) (m : r .revision ≤ top) (w : whole r ≡ true) where
       c196 = refl;
       c197 = refl;
       c200 = all-applied r (y .complete);
-      c189-record = after-commit-opens _ _ r;
+      c189-record = refl;
     });
   }
 
@@ -90,7 +91,7 @@ module _ (r : Record) (m : r .revision ≤ top) (w : whole r ≡ true) where
           (λ i. (RecoverAnswer.idle (not-true _ i), λ g. is-idle r i), λ e₁. (λ i. (RecoverAnswer.notReady (not-false _ e₁) i, λ g. is-staged r e₁), f e₁))
 
       recovers : RecoverAnswer r n (step r c .class) × RecoverClauses r n (step r c)
-      unfolding idleAt
+      unfolding opening
       recovers = let x : RecoverClauses r n (step r c) = record {
         c202 = still-whole r m w c;
         c203 = keeps (λ s. s .revision ≡ r .revision) decided refl refl;
@@ -102,7 +103,7 @@ module _ (r : Record) (m : r .revision ≤ top) (w : whole r ≡ true) where
           c208 = refl;
           c209 = refl;
           c210 = refl;
-          c202-record = after-commit-opens _ _ r;
+          c202-record = refl;
         });
       } in (answered decided, x)
 

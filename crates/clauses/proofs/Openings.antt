@@ -10,7 +10,6 @@ use Rattle.record.specs.{Classes.Class.performed, Classes.refused, Answers.Told
 use Rattle.record.specs.{declared.Answer.the-variants.Done, declared.Was.the-variants.Nothing}
 use Rattle.wholeness.specs.Whole.{whole}
 use Rattle.step_begins.specs.Opening.{opening, openBars, openStep}
-use Rattle.step_ends.specs.Ending.{idleAt}
 use Rattle.log.specs.Log.{headWords, blank}
 use Rattle.events.proofs.Soundness.{blank-is}
 use Rattle.noting.specs.{Recorded.withLog, Through.leavesThrough}
@@ -21,8 +20,7 @@ use Rattle.clauses.proofs.{Splitting.Decided, Splitting.decide, Splitti
 
 -- an opening is whole
 opening-whole : (given : Opening) (l : ℕ) → given .revision ≤ top → l ≤ areaSize → whole (opening given l) ≡ true
-unfolding opening idleAt
-opening-whole given l m h = whole-test (idles (given .revision) l (opening given l) m h)
+opening-whole given l m h = whole-test (idles given l m h)
 
 module _ (given : Opening) (m : given .revision ≤ top) where
   module _ (sizes : Bool) (l : ℕ) where

@@ -11,7 +11,6 @@ use Rattle.record.specs.Live as Tickets
 use Rattle.step_begins.specs.{Opening.opening, Opening.openStep, Beginning.begun}
 use Rattle.step_asks.specs.Asks.{turned}
 use Rattle.step_reports.specs.Reports.{storing}
-use Rattle.step_ends.specs.Ending.{idleAt}
 use Rattle.calls.specs.{Calls.Report, Calls.Call, Calls.Report.structured, Calls.Report.updated, Calls.Report.rolledBack}
 use Rattle.demand_steps.specs.Watching.{Item, Watch, isFor, sees, watch, unwatched}
 use Rattle.demand_steps.specs.Watching.Item.{settle, apply, undo}
@@ -57,7 +56,7 @@ none : Steps [] [] 0 0
 none = record { c46 = refl; c48 = refl }
 
 steps : {r : Record} {c : Call} {x : Told} (w : Watch) → Whole r → Tied w r → Listed w r → Leaf r c x → Listed (sees w c (saidOf x)) (x .state)
-unfolding sees begun turned adopting idleAt pick
+unfolding sees begun turned adopting opening pick
 steps w h d s (kept u f) = rw (u w) s
 steps w h d s (began i l f m) = none
 steps w h d s (structureAsked y) = s

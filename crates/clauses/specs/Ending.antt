@@ -12,11 +12,12 @@ use Rattle.phases.specs.Phases.{none, ready, recovered}
 use Rattle.record.specs.Classes.{refused}
 use Rattle.record.specs.Classes.Class.{performed, refusal}
 use Rattle.record.specs.Answers.{Told}
-use Rattle.record.specs.Given.{at}
+use Rattle.record.specs.Given.{standing}
 use Rattle.record.specs.declared.Record.{Record}
 use Rattle.record.specs.declared.Refusal.the-variants.{Pending, Idle, NotReady}
 use Rattle.wholeness.specs.Whole.{whole, complete}
 use Rattle.step_begins.specs.Opening.{opening}
+use Rattle.step_ends.specs.Ending.{afterCommit}
 use Rattle.step_stamps.specs.declared.SaveStamp.{SaveStamp}
 use Rattle.clauses.specs.Keeping.{gained, SameStaged, SameBatch}
 
@@ -39,7 +40,7 @@ pub record Committed (r : Record) (t : Told) : Type 0 where
   -- as many applied as entries
   pub c200 : r .applied ≡ r .entries
   -- stronger: the whole record, that of an opening with the serial kept
-  pub c189-record : t .state ≡ opening (at (r .revision + 1) (r .serial)) (r .candidate)
+  pub c189-record : t .state ≡ opening (afterCommit r) (r .candidate)
 
 pub record CommitClauses (r : Record) (t : Told) : Type 0 where
   -- `new.wf()`
@@ -70,7 +71,7 @@ pub record Recovered (r : Record) (n : ℕ) (t : Told) : Type 0 where
   -- the answer has the lengths of the old accepted, candidate and recovery payloads (also C211, C219, C220)
   pub c210 : t .values ≡ r .accepted ∷ r .candidate ∷ r .recovery ∷ []
   -- stronger: the whole record, as after a commit but for the revision (also C214)
-  pub c202-record : t .state ≡ opening (at (r .revision) (r .serial)) n
+  pub c202-record : t .state ≡ opening (standing r) n
 
 -- `recover` with a payload of length n, and `recover_with`, whose n is the retained one's
 pub record RecoverClauses (r : Record) (n : ℕ) (t : Told) : Type 0 where

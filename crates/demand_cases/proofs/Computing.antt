@@ -22,7 +22,7 @@ use Rattle.step_begins.specs.Beginning.{firstPhase, begun, beginOwn, editOwn}
 use Rattle.step_asks.specs.Asks.{askStructureOwn, askUpdateOwn, askRollbackOwn, turned}
 use Rattle.step_reports.specs.Done.{onward, advanced, structureDone, updateDone, least, leaving, rollbackDone}
 use Rattle.step_reports.specs.Reports.{reported, reportStructureOwn, reportUpdateOwn, reportRollbackOwn}
-use Rattle.step_ends.specs.Ending.{idleAt, commitOwn, unrestored, recoverOwn, recoverRetainedOwn, refreshOwn}
+use Rattle.step_ends.specs.Ending.{commitOwn, unrestored, recoverOwn, recoverRetainedOwn, refreshOwn}
 use Rattle.step_stamps.specs.Stamping.{stampStep, passes, checkStep}
 use Rattle.log.specs.Log.{logSized, sound, full, appended, blank}
 use Rattle.events.specs.Entries.{eventIf}
@@ -40,7 +40,7 @@ use Rattle.demand_chains.proofs.Theorems.{demands}
 
 -- a call on a record
 unfoldable pub called : Record → Call → Told
-unfolding pick _and_ _or_ _implies_ hasSuccessor successor boundary long isLive adopting lengthsFit countsFit stagedFits forwardFits backFits restoringFits liveFits whole complete gateOf gated opening openStep firstPhase begun beginOwn editOwn askStructureOwn askUpdateOwn askRollbackOwn turned onward advanced structureDone updateDone least leaving rollbackDone reported reportStructureOwn reportUpdateOwn reportRollbackOwn idleAt commitOwn unrestored recoverOwn recoverRetainedOwn refreshOwn stampStep passes checkStep
+unfolding pick _and_ _or_ _implies_ hasSuccessor successor boundary long isLive adopting lengthsFit countsFit stagedFits forwardFits backFits restoringFits liveFits whole complete gateOf gated opening openStep firstPhase begun beginOwn editOwn askStructureOwn askUpdateOwn askRollbackOwn turned onward advanced structureDone updateDone least leaving rollbackDone reported reportStructureOwn reportUpdateOwn reportRollbackOwn commitOwn unrestored recoverOwn recoverRetainedOwn refreshOwn stampStep passes checkStep
 called r c = step r c
 
 abbrev pub performs : Record → Call → Bool

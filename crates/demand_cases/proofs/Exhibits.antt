@@ -5,7 +5,7 @@ use mathlib.Core.Bool.{Bool, true, false, _&&_}
 use mathlib.Core.List.{List, [], _∷_, map}
 use Rattle.record.specs.Live.{workOf}
 use Rattle.record.specs.Given.{at}
-use Rattle.record.specs.Fields.{withTicket, withPlace, withBatch, withSettings}
+use Rattle.record.specs.Fields.{withTicket, withPlace, withBatch, withStaged}
 use Rattle.record.specs.declared.Record.{Record}
 use Rattle.record.specs.declared.Live.{Live}
 use Rattle.record.specs.declared.Live.the-variants.{None, Structure, Update, Rollback}
@@ -15,7 +15,7 @@ use Rattle.demand_cases.proofs.Computing.{called}
 
 -- a staged record at serial 1: phase, forward, back; entries, applied, attempted, restoring; the live ticket
 unfoldable pub staged : ℕ → ℕ → ℕ → ℕ → ℕ → ℕ → Bool → Live → Record
-staged p f b n a k v l = withTicket 1 l (withPlace p f b (withBatch n a k v (withSettings 7 true (opening (at 7 0) 3))))
+staged p f b n a k v l = withTicket 1 l (withPlace p f b (withBatch n a k v (withStaged true (opening (at 7 0) 3))))
 
 -- one in phase 5
 unfoldable pub updating : Record

@@ -12,6 +12,7 @@ use Rattle.record.specs.Answers.{Said, said, saidOf}
 use Rattle.record.specs.Given.{at, beginning}
 use Rattle.record.specs.declared.Outcome.the-variants.{Waiting, Done}
 use Rattle.step_begins.specs.Opening.{opening}
+use Rattle.step_ends.specs.Ending.{afterCommit}
 use Rattle.step_stamps.specs.Stamping.{saysStamping, saysChecked}
 use Rattle.step_stamps.specs.declared.Stamping.the-variants.{Taken}
 use Rattle.step_stamps.specs.declared.Checked.the-variants.{Passes, Fails}
@@ -67,7 +68,7 @@ unfolding now seen
 early-met = demand bare .recovery-early refl refl
 
 -- and commit at once: the record is that of an opening one revision on
-pub opens-met : called (now bare) commit .state ≡ opening (at 8 0) 2
+pub opens-met : called (now bare) commit .state ≡ opening (afterCommit (now bare)) 2
 unfolding now
 opens-met = commit-opens (now bare) refl
 

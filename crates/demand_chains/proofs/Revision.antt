@@ -15,7 +15,7 @@ use Rattle.record.specs.declared.Record.{Record}
 use Rattle.step_begins.specs.Beginning.{begun}
 use Rattle.step_asks.specs.Asks.{turned}
 use Rattle.step_reports.specs.Done.{advanced}
-use Rattle.step_ends.specs.Ending.{idleAt}
+use Rattle.record.specs.Given.{opening}
 use Rattle.calls.specs.Calls.{Report, Call}
 use Rattle.demand_chains.specs.Sending.{Sent, afterSent, heardSent}
 use Rattle.demand_steps.specs.Watching.{Watch, hearsReport, sees, watch}
@@ -37,7 +37,7 @@ reports of t s w e v =
     alike e v (report-keeps (λ (x : Watch). x .running) (λ d u x. refl) of t works _ w) (report-keeps (λ (x : Watch). x .commits) (λ d u x. refl) of t works _ w)
 
 known : {r : Record} {c : Call} {x : Told} (w : Watch) → Leaf r c x → Known r (x .state) w (sees w c (saidOf x))
-unfolding sees begun turned adopting idleAt advanced pick
+unfolding sees begun turned adopting opening advanced pick
 known w (kept u f) = rw (u w) (alike refl refl refl refl)
 known w (began i l f m) = record { runs = λ h. refl; gains = refl }
 known w (structureAsked y) = alike refl refl refl refl

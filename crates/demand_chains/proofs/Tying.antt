@@ -13,7 +13,7 @@ use Rattle.record.specs.Fields.{adopting}
 use Rattle.record.specs.declared.Record.{Record}
 use Rattle.step_begins.specs.Beginning.{firstPhase, begun}
 use Rattle.step_asks.specs.Asks.{turned}
-use Rattle.step_ends.specs.Ending.{idleAt}
+use Rattle.record.specs.Given.{opening}
 use Rattle.calls.specs.Calls.{Call}
 use Rattle.calls.specs.Calls.Report.{updated, rolledBack}
 use Rattle.demand_steps.specs.Watching.{Watch, isFor, sees}
@@ -46,7 +46,7 @@ first true = structural refl (omega arith)
 first false = updateOnly refl refl
 
 pub tie : {r : Record} {c : Call} {x : Told} (w : Watch) → Whole r → Tied w r → Leaf r c x → Tied (sees w c (saidOf x)) (x .state)
-unfolding sees begun turned adopting idleAt pick
+unfolding sees begun turned adopting opening pick
 tie w h d (kept u f) = rw (u w) record { running = d .running; turning = d .turning; kind = d .kind; last = d .last; course = d .course }
 tie w h d (began {structural = s} i l f m) = record { running = refl; turning = refl; kind = first s; last = tt; course = ahead refl refl refl refl refl }
 tie w h d (structureAsked y) = record { running = d .running; turning = d .turning; kind = d .kind; last = (refl, refl); course = d .course }

@@ -9,7 +9,8 @@ use Rattle.record.specs.Fields.{top, spent}
 use Rattle.record.specs.declared.Record.{Record}
 use Rattle.step_reports.specs.Done.{advanced}
 use Rattle.step_reports.specs.Reports.{storing}
-use Rattle.step_ends.specs.Ending.{idleAt}
+use Rattle.record.specs.Given.{opening}
+use Rattle.record.specs.declared.Opening.{Opening}
 use Rattle.demand_steps.proofs.Leaf.{Apart, Left}
 use Rattle.demand_steps.proofs.Facts.{Whole, byCase}
 use Rattle.demand_steps.proofs.Facts.Stage.{flat}
@@ -40,10 +41,10 @@ advances {r} {new} {old} w y f =
       calm = busy (w .calm) (λ z n i. y .not0 z);
     })
 
--- idle, with a revision and an accepted length
-pub idles : (v a : ℕ) (r : Record) → v ≤ top → a ≤ areaSize → Whole (idleAt v a r)
-unfolding idleAt
-idles v a r m l = record {
+-- the record of an opening
+pub idles : (given : Opening) (a : ℕ) → given .revision ≤ top → a ≤ areaSize → Whole (opening given a)
+unfolding opening
+idles given a m l = record {
   lengths = record { accepted = l; candidate = omega arith; recovery = omega arith };
   size = omega arith;
   stage = flat refl refl refl refl;

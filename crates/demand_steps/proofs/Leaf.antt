@@ -22,10 +22,11 @@ use Rattle.record.specs.declared.Outcome.the-variants as O
 use Rattle.record.specs.declared.Answer.the-variants.{Done, Finished}
 use Rattle.record.specs.declared.Was.the-variants.{Nothing, Three}
 use Rattle.step_begins.specs.Beginning.{firstPhase, begun}
+use Rattle.record.specs.Given.{opening}
 use Rattle.step_asks.specs.Asks.{issue, started, turned}
 use Rattle.step_reports.specs.Done.{advanced, raised, lowered}
 use Rattle.step_reports.specs.Reports.{storing}
-use Rattle.step_ends.specs.Ending.{idleAt, recoveredTo}
+use Rattle.step_ends.specs.Ending.{afterCommit, recoveredTo}
 use Rattle.calls.specs.Calls.{Call}
 use Rattle.calls.specs.Calls.Work.{structure, update, rollback}
 use Rattle.calls.specs.Calls.Report.{structured, updated, rolledBack}
@@ -75,6 +76,6 @@ pub data Leaf (r : Record) : Call → Told → Type 0 where
       Leaf r (report updated t O.Done) (told (said (stepping s) []) (withPlace p (r .forward) (r .back) (raised (spent r))))
   undoTaken : {t p : ℕ} {s : StepAnswer} → takes s ≡ true → isLive Tickets.rollback t (r .live) ≡ true → Goes (r .entries - 1) 0 undo recoverRemove (r .phase .number) p →
       Leaf r (report rolledBack t O.Done) (told (said (stepping s) []) (withPlace p (r .forward) (r .back) (lowered (spent r))))
-  committed : r .staged ≡ true → Leaf r commit (answer (Done (Three (r .accepted) (r .recovery) (r .entries))) (idleAt (r .revision + 1) (r .candidate) r))
+  committed : r .staged ≡ true → Leaf r commit (answer (Done (Three (r .accepted) (r .recovery) (r .entries))) (opening (afterCommit r) (r .candidate)))
   recovered : {n : ℕ} → n ≤ areaSize → Leaf r (recover n) (recoveredTo n r)
   restored : Leaf r recoverRetained (recoveredTo (r .recovery) r)

@@ -83,6 +83,6 @@ preserve {r} w (undoTaken t l g) = let y = onRollback w l in let u = inUndo (w .
   ticket = tt;
   calm = busy (w .calm) (λ z m i. omega (arith, y .some));
 }
-preserve {r} w (committed i) = idles _ _ r (omega (arith, room (w .calm) i)) (w .lengths .candidate)
-preserve {r} w (recovered i) = idles _ _ r (range (w .calm)) i
-preserve {r} w restored = idles _ _ r (range (w .calm)) (w .lengths .recovery)
+preserve {r} w (committed i) = idles _ _ (omega (arith, room (w .calm) i)) (w .lengths .candidate)
+preserve {r} w (recovered i) = idles _ _ (range (w .calm)) i
+preserve {r} w restored = idles _ _ (range (w .calm)) (w .lengths .recovery)

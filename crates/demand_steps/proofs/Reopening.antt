@@ -6,19 +6,14 @@ use mathlib.Core.List.{List, []}
 use Rattle.choice.proofs.Tests.{never}
 use Rattle.record.specs.Classes.{successful}
 use Rattle.record.specs.Answers.{Told}
-use Rattle.record.specs.Given.{at}
+use Rattle.record.specs.Given.{standing}
 use Rattle.record.specs.declared.Record.{Record}
 use Rattle.wholeness.specs.Gates.{Bar, barring, longSnapshot}
 use Rattle.step_begins.specs.Opening.{opening}
-use Rattle.step_ends.specs.Ending.{idleAt, commitBars, commitOwn, recoverBars, recoverOwn, recoverRetainedOwn}
+use Rattle.step_ends.specs.Ending.{afterCommit, commitBars, commitOwn, recoverBars, recoverOwn, recoverRetainedOwn}
 use Rattle.calls.specs.Calls.{Call, step}
 use Rattle.calls.specs.Calls.Call.{commit, recover, recoverRetained}
 use Rattle.demand_steps.proofs.Own.{own, row, answers}
-
--- the record of a transaction that has ended is that of an opening, at its revision, its serial and its accepted length
-pub after-commit-opens : (v n : ℕ) (r : Record) → idleAt v n r ≡ opening (at v (r .serial)) n
-unfolding idleAt opening
-after-commit-opens v n r = refl
 
 abbrev Opens : Record → Told → Type 0
 Opens to x = successful (x .class) ≡ true → x .state ≡ to
@@ -28,14 +23,14 @@ module _ (r : Record) where
   ends {to} c bs done e p =
       answers (Opens to) r (λ why h. never (sym h)) true true c (λ w. subst (Opens to) (sym e) (row (Opens to) r (λ why h. never (sym h)) bs (λ x h. p)))
 
-  pub commit-opens : successful (step r commit .class) ≡ true → step r commit .state ≡ opening (at (r .revision + 1) (r .serial)) (r .candidate)
+  pub commit-opens : successful (step r commit .class) ≡ true → step r commit .state ≡ opening (afterCommit r) (r .candidate)
   unfolding own commitOwn
-  commit-opens = ends commit (commitBars r) _ refl (after-commit-opens _ _ r)
+  commit-opens = ends commit (commitBars r) _ refl refl
 
-  pub recover-opens : (n : ℕ) → successful (step r (recover n) .class) ≡ true → step r (recover n) .state ≡ opening (at (r .revision) (r .serial)) n
+  pub recover-opens : (n : ℕ) → successful (step r (recover n) .class) ≡ true → step r (recover n) .state ≡ opening (standing r) n
   unfolding own recoverOwn
-  recover-opens n = ends (recover n) (recoverBars r (longSnapshot n [])) _ refl (after-commit-opens _ _ r)
+  recover-opens n = ends (recover n) (recoverBars r (longSnapshot n [])) _ refl refl
 
-  pub recover-retained-opens : successful (step r recoverRetained .class) ≡ true → step r recoverRetained .state ≡ opening (at (r .revision) (r .serial)) (r .recovery)
+  pub recover-retained-opens : successful (step r recoverRetained .class) ≡ true → step r recoverRetained .state ≡ opening (standing r) (r .recovery)
   unfolding own recoverRetainedOwn
-  recover-retained-opens = ends recoverRetained (recoverBars r []) _ refl (after-commit-opens _ _ r)
+  recover-retained-opens = ends recoverRetained (recoverBars r []) _ refl refl

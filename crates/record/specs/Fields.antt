@@ -66,10 +66,10 @@ withBatch entries applied attempted restoring r = record {
   live = r .live;
 }
 
--- the revision, and whether a transaction is staged
-abbrev pub withSettings : ℕ → Bool → Record → Record
-withSettings revision staged r = record {
-  revision = revision;
+-- whether a transaction is staged
+abbrev pub withStaged : Bool → Record → Record
+withStaged staged r = record {
+  revision = r .revision;
   serial = r .serial;
   accepted = r .accepted;
   candidate = r .candidate;

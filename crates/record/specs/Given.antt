@@ -1,7 +1,10 @@
 -- What a call is given and found to be lent, as values: openings, begins, what is found of sizes alone, and what an outcome asks for.
 -- Assumes nothing.
 use Prim.Native.Nat.{ℕ}
-use mathlib.Core.Bool.{Bool, true}
+use mathlib.Core.Bool.{Bool, true, false}
+use Rattle.phases.specs.Phases.{none}
+use Rattle.record.specs.declared.Record.{Record}
+use Rattle.record.specs.declared.Live.the-variants.{None}
 use Rattle.record.specs.declared.Opening.{Opening}
 use Rattle.record.specs.declared.Beginning.{Beginning}
 use Rattle.record.specs.declared.Findings.{Findings}
@@ -10,9 +13,35 @@ use Rattle.record.specs.declared.Answer.the-variants as A
 use Rattle.record.specs.declared.Outcome.{Outcome}
 use Rattle.record.specs.declared.Outcome.the-variants.{Waiting, Failed, Done}
 
--- "revision and serial are given"
+-- "revision and serial are given": all else of an opening is 0
 abbrev pub at : ℕ → ℕ → Opening
 at revision serial = record { revision = revision; serial = serial }
+
+abbrev pub start : Opening
+start = at 0 0
+
+-- "accepted payload copied, all else as after a commit": idle, counts 0, not restoring, candidate and recovery lengths 0
+unfoldable pub opening : Opening → ℕ → Record
+opening given accepted = record {
+  revision = given .revision;
+  serial = given .serial;
+  accepted = accepted;
+  candidate = 0;
+  recovery = 0;
+  staged = false;
+  phase = record { number = none };
+  forward = 0;
+  back = 0;
+  entries = 0;
+  applied = 0;
+  attempted = 0;
+  restoring = false;
+  live = None;
+}
+
+-- what an opening is given that goes on from a record
+abbrev pub standing : Record → Opening
+standing r = record { revision = r .revision; serial = r .serial }
 
 -- "both payloads and the pairs", by their lengths and their number
 abbrev pub beginning : ℕ → ℕ → ℕ → Beginning

@@ -6,7 +6,7 @@ use phases::Phase;
 ghost use mathlib.Core.Path.{_≡_};
 ghost use Rattle.record.specs.Fields.{withTicket, adopting};
 ghost use Rattle.record.specs.Answers.{answer, refuse, tells};
-ghost use Rattle.record.specs.Given.{ofSizes};
+ghost use Rattle.record.specs.Given.{ofSizes, start, opening, standing};
 
 // The largest u64: no revision is committed over it, and no serial is given past it.
 pub const MAX: u64 = 18446744073709551615;
@@ -120,7 +120,53 @@ impl Findings {
     }
 }
 
+impl Opening {
+    // An opening at 0.
+    pub fn start() -> Opening
+        ensures { λ o. ⌜ o ≡ start ⌝ }
+    {
+        Opening {
+            revision: 0,
+            serial: 0,
+        }
+    }
+
+    // The idle record of an opening, with an accepted payload of a length.
+    pub fn opened(self, accepted: usize) -> Record
+        ensures { λ r. ⌜ r ≡ opening self accepted ⌝ }
+    {
+        Record {
+            revision: self.revision,
+            serial: self.serial,
+            accepted: accepted,
+            candidate: 0,
+            recovery: 0,
+            staged: false,
+            phase: Phase {
+                number: Phase::NONE,
+            },
+            forward: 0,
+            back: 0,
+            entries: 0,
+            applied: 0,
+            attempted: 0,
+            restoring: false,
+            live: Live::None,
+        }
+    }
+}
+
 impl Record {
+    // What an opening is given that goes on from here.
+    pub fn standing(self) -> Opening
+        ensures { λ o. ⌜ o ≡ standing self ⌝ }
+    {
+        Opening {
+            revision: self.revision,
+            serial: self.serial,
+        }
+    }
+
     // The same record with another serial and live ticket.
     pub fn with_ticket(self, serial: u64, live: Live) -> Record
         ensures { λ r. ⌜ r ≡ withTicket serial live self ⌝ }

@@ -14,7 +14,7 @@ use Rattle.record.specs.Live.{noTicket, rollback, workOf, number}
 use Rattle.record.specs.declared.Record.{Record}
 use Rattle.record.specs.declared.Live.{Live}
 use Rattle.record.specs.declared.Live.the-variants.{None, Structure, Update, Rollback}
-use Rattle.rows.specs.Rows.{at, flag, rowOf, top8, top32, inRanges, liveOf, made, recordOf}
+use Rattle.rows.specs.Rows.{at, flag, rowOf, fields, top8, top32, inRanges, liveOf, made, recordOf}
 use Rattle.rows.specs.declared.Row.the-variants.{Fits, Misfit}
 use Rattle.rows.proofs.Ranges.{Ranged, ranged}
 
@@ -97,7 +97,7 @@ unfolding listed
 all-listed [] = refl
 all-listed (n ∷ row) = ap (λ (l : List ℕ). n ∷ l) (all-listed row)
 
-numbers-made : (row : List ℕ) → length row ≡ 15 → Ranged row → rowOf (made row) ≡ row
+numbers-made : (row : List ℕ) → length row ≡ fields → Ranged row → rowOf (made row) ≡ row
 unfolding rowOf listed
 numbers-made row l t =
     let live = live-same (at row 13) (at row 14) (t .work) (t .ticket) in
@@ -108,7 +108,7 @@ numbers-made row l t =
 pub numbers-back : (row : List ℕ) (r : Record) → recordOf row ≡ Fits r → rowOf r ≡ row
 unfolding recordOf
 numbers-back row r e =
-    test (eqb (length row) 15 and inRanges row)
+    test (eqb (length row) fields and inRanges row)
     (λ h. let fits = both h in
     let same : made row ≡ r = cc (yes {x = Fits (made row)} Misfit h refl) in
     ap rowOf (sym same) ∙ numbers-made row (eqb-true _ _ (fits .0)) (ranged row (fits .1)))

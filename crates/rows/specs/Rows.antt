@@ -64,6 +64,9 @@ made row = record {
   live = liveOf (at row 13) (at row 14);
 }
 
+abbrev pub fields : ℕ
+fields = 15
+
 -- a row has as many numbers as a record has fields
 unfoldable pub recordOf : List ℕ → Row
-recordOf row = pick (eqb (length row) 15 and inRanges row) (Fits (made row)) Misfit
+recordOf row = pick (eqb (length row) fields and inRanges row) (Fits (made row)) Misfit

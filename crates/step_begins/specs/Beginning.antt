@@ -7,7 +7,7 @@ use Rattle.choice.specs.Pick.{pick}
 use Rattle.phases.specs.Phases.{none, remove}
 use Rattle.batch.specs.Batch.{limit}
 use Rattle.record.specs.Fields.{top}
-use Rattle.record.specs.Fields.{withPlace, withBatch, withSettings, withLengths, spent}
+use Rattle.record.specs.Fields.{withPlace, withBatch, withStaged, withLengths, spent}
 use Rattle.record.specs.Answers.{Told, answer}
 use Rattle.wholeness.specs.Gates.{gateOf, gated, Bar, _whenever_, barring, longPayloads}
 use Rattle.record.specs.declared.Record.{Record}
@@ -24,7 +24,7 @@ firstPhase structural = pick structural remove none
 unfoldable pub begun : ℕ → Beginning → Record → Record
 begun phase b r =
     spent (withPlace phase 0 0 (withBatch (b .actions) 0 0 false
-    (withSettings (r .revision) true (withLengths (r .accepted) (b .candidate) (b .recovery) r))))
+    (withStaged true (withLengths (r .accepted) (b .candidate) (b .recovery) r))))
 
 -- "Begin, begin structural: 1, 3, 8, 9."
 abbrev pub beginBars : Record → Beginning → List Bar

@@ -1,23 +1,20 @@
 -- Document 01, "The steps": commit, both recoveries and refresh. Assumes nothing.
 use Prim.Native.Nat.{ℕ, _+_}
-use mathlib.Core.Bool.{Bool, false, not}
+use mathlib.Core.Bool.{Bool, not}
 use lib.Dec.{eqb, ltb}
 use mathlib.Core.List.{List, [], _∷_}
 use Rattle.choice.specs.Pick.{_or_}
 use Rattle.phases.specs.Phases.{none, ready, recovered}
 use Rattle.wholeness.specs.Whole.{complete}
-use Rattle.record.specs.Fields.{withPlace, withBatch, withSettings, withLengths, spent}
+use Rattle.record.specs.Fields.{withLengths}
+use Rattle.record.specs.Given.{opening, standing}
+use Rattle.record.specs.declared.Opening.{Opening}
 use Rattle.record.specs.Answers.{Told, answer}
 use Rattle.wholeness.specs.Gates.{gateOf, gated, Bar, _whenever_, barring, longSnapshot}
 use Rattle.record.specs.declared.Record.{Record}
 use Rattle.record.specs.declared.Answer.the-variants.{Done}
 use Rattle.record.specs.declared.Was.the-variants.{One, Three}
 use Rattle.record.specs.declared.Refusal.the-variants.{Pending, Idle, NotReady}
-
--- "After commit and both recoveries: idle, counts 0, not restoring, candidate and recovery lengths 0."
-unfoldable pub idleAt : ℕ → ℕ → Record → Record
-idleAt revision accepted r =
-    spent (withPlace none 0 0 (withBatch 0 0 0 false (withSettings revision false (withLengths accepted 0 0 r))))
 
 -- "Commit: 2; 4 if not complete or phase not 0 or 7."
 abbrev pub commitBars : Record → List Bar
@@ -26,11 +23,16 @@ commitBars r =
     ∷ NotReady whenever (not (complete r) or not (eqb (r .phase .number) none or eqb (r .phase .number) ready))
     ∷ []
 
--- "revision plus one"; "Commit answers with the old accepted and recovery lengths and entries"
+-- "revision plus one"
+abbrev pub afterCommit : Record → Opening
+afterCommit r = record { revision = r .revision + 1; serial = r .serial }
+
+-- "After commit and both recoveries: idle, counts 0, not restoring, candidate and recovery lengths 0": the record of an opening;
+-- "Commit answers with the old accepted and recovery lengths and entries"
 unfoldable pub commitOwn : Record → Told
 commitOwn r =
     barring (commitBars r) r
-    (answer (Done (Three (r .accepted) (r .recovery) (r .entries))) (idleAt (r .revision + 1) (r .candidate) r))
+    (answer (Done (Three (r .accepted) (r .recovery) (r .entries))) (opening (afterCommit r) (r .candidate)))
 
 -- "4 if entries > 0 or phase not 0 or 13"
 unfoldable pub unrestored : Record → Bool
@@ -42,7 +44,7 @@ recoverBars r next = Idle whenever not (r .staged) ∷ NotReady whenever unresto
 
 -- "both recoveries with the old accepted, candidate and recovery lengths"
 abbrev pub recoveredTo : ℕ → Record → Told
-recoveredTo accepted r = answer (Done (Three (r .accepted) (r .candidate) (r .recovery))) (idleAt (r .revision) accepted r)
+recoveredTo accepted r = answer (Done (Three (r .accepted) (r .candidate) (r .recovery))) (opening (standing r) accepted)
 
 -- "Recover (exchange area, length): 2; 4 if ..; 8."
 unfoldable pub recoverOwn : Record → ℕ → Told

@@ -2,7 +2,7 @@
 use phases::Phase;
 use record::Answer;
 use record::Findings;
-use record::Live;
+use record::Opening;
 use record::Record;
 use record::Refusal;
 use record::Stepped;
@@ -11,28 +11,9 @@ use wholeness::Gate;
 ghost use mathlib.Core.List.{[]};
 ghost use mathlib.Core.Path.{_≡_};
 ghost use Rattle.record.specs.Answers.{tells};
-ghost use Rattle.step_ends.specs.Ending.{idleAt, unrestored, recoveredTo, commitBars, recoverBars, refreshBars};
+ghost use Rattle.step_ends.specs.Ending.{unrestored, recoveredTo, commitBars, recoverBars, refreshBars};
 ghost use Rattle.step_ends.specs.Ending.{commitStep, recoverStep, recoverRetainedStep, refreshStep};
 ghost use Rattle.wholeness.specs.Gates.{gateOf, gated, through};
-
-// The idle record after a commit or a recovery.
-fn idle_at(mut r: Record, revision: u64, accepted: usize) -> Record
-    ensures { λ s. ⌜ s ≡ idleAt revision accepted r ⌝ }
-{
-    r.revision = revision;
-    r.accepted = accepted;
-    r.candidate = 0;
-    r.recovery = 0;
-    r.staged = false;
-    r.phase.number = Phase::NONE;
-    r.forward = 0;
-    r.back = 0;
-    r.entries = 0;
-    r.applied = 0;
-    r.attempted = 0;
-    r.restoring = false;
-    r.with_ticket(r.serial, Live::None)
-}
 
 // The refusals of a commit, in their order.
 fn commit_gate(r: Record, found: Findings) -> Gate
@@ -54,7 +35,11 @@ pub fn commit(r: Record, found: Findings) -> Stepped
         return r.refuse(why);
     }
     let was = Was::Three(r.accepted, r.recovery, r.entries as usize);
-    idle_at(r, r.revision + 1, r.candidate).answering(Answer::Done(was))
+    let given = Opening {
+        revision: r.revision + 1,
+        serial: r.serial,
+    };
+    given.opened(r.candidate).answering(Answer::Done(was))
 }
 
 // Whether a recovery comes too early: entries are left to undo, or the way back is not at its end.
@@ -81,7 +66,7 @@ fn recovered(r: Record, gate: Gate, accepted: usize) -> Stepped
         return r.refuse(why);
     }
     let was = Was::Three(r.accepted, r.candidate, r.recovery);
-    idle_at(r, r.revision, accepted).answering(Answer::Done(was))
+    r.standing().opened(accepted).answering(Answer::Done(was))
 }
 
 // A snapshot of a length, in the exchange area, becomes the accepted payload.

@@ -7,6 +7,8 @@ use record::Record;
 use record::Refusal;
 ghost use mathlib.Core.Path.{_≡_};
 ghost use Rattle.wholeness.specs.Whole.{lengthsFit, countsFit, stagedFits, forwardFits, backFits, restoringFits, liveFits, whole, complete};
+ghost use Prim.Native.Nat.{_+_};
+ghost use lib.Dec.{eqb};
 ghost use mathlib.Core.List.{[]};
 ghost use Rattle.wholeness.specs.Gates.{gateOf, barred, through, longPayloads, longSnapshot};
 
@@ -114,6 +116,13 @@ fn restoring_fits(r: Record) -> bool
         & (!(Phase::RECOVER_REMOVE <= p) | (r.entries == 0))
 }
 
+// Whether a count is one past another.
+fn is_next(n: u32, m: u32) -> bool
+    ensures { λ b. ⌜ b ≡ eqb m (n + 1) ⌝ }
+{
+    (m as u64) == (n as u64) + 1
+}
+
 fn live_fits(r: Record) -> bool
     ensures { λ b. ⌜ b ≡ liveFits (r .live) (r .serial) (r .restoring) (r .phase .number) (r .entries) (r .applied) (r .attempted) ⌝ }
 {
@@ -127,7 +136,7 @@ fn live_fits(r: Record) -> bool
             & (!(work == Live::UPDATE)
                 | (((p == Phase::NONE) | (p == Phase::UPDATES))
                     & !r.restoring
-                    & ((r.attempted as u64) == (r.applied as u64) + 1)))
+                    & is_next(r.applied, r.attempted)))
             & (!(work == Live::ROLLBACK) | (r.restoring & (0 < r.entries))))
 }
 

@@ -16,8 +16,8 @@ returns c =
     let r = k .before .args .r in
     barred-out _ (commitBars r) (k .commit-gate .ensures) r _ (c .before .before .gate .given .1) (c .refuse .ensures)
 
-add-idle-at : tie.Need-add-idle-at
-add-idle-at c =
+add-t8 : tie.Need-add-t8
+add-t8 c =
     let k = c .before .before .before .before in
     let t = clear _ (commitBars (k .before .args .r)) (sym (k .commit-gate .ensures) ∙ c .before .before .enum-told .given .1) in
     omega (arith, staged-room _ _ _ _ _ (behind _ _ _ refl (t .0) .staging) (not-false _ (t .1 .0)))
@@ -28,9 +28,9 @@ returns-2 c =
     let k = c .before .before .before .before in
     let r = k .before .before .before .args .r in
     let-in _ (commitBars r) (k .before .before .commit-gate .ensures) r (k .enum-told .given .1)
-    (rw (c .before .idle-at .ensures) at (c .answering .ensures))
+    (rw (c .before .opened .ensures) at (c .answering .ensures))
 
 pub commit-spec : {M : Type 1} → statement M
 commit-spec =
     tie.close
-    (tie.spec (search needs) (search needs) (search needs) returns (search needs) (search needs) add-idle-at (search needs) (search needs) returns-2)
+    (tie.spec (search needs) (search needs) (search needs) returns (search needs) (search needs) add-t8 (search needs) (search needs) returns-2)

@@ -8,11 +8,11 @@ use Rattle.wholeness.proofs.live_fits.Tie as tie
 returns : tie.Need-returns
 unfolding liveFits _and_ _or_ _implies_
 returns c =
-    let s = c .before .before .before .before .before in
+    let s = c .before .before .before .before in
     let k = s .before .before .before in
-    simp (s .has-successor .ensures, k .number .ensures, k .before .work .ensures)
+    simp (c .before .before .is-next .ensures, s .has-successor .ensures, k .number .ensures, k .before .work .ensures)
 
 pub live-fits-spec : {M : Type 1} → statement M
 live-fits-spec =
     tie.close
-    (tie.spec (search needs) (search needs) (search needs) (search needs) (search needs) (search needs) returns)
+    (tie.spec (search needs) (search needs) (search needs) (search needs) returns)
