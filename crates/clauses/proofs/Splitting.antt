@@ -15,7 +15,7 @@ use Rattle.wholeness.specs.{Whole.whole, Gates.Bar, Gates.barring}
 use Rattle.wholeness.proofs.Passing.{Clear}
 use Rattle.step_reports.specs.Reports.{reported}
 use Rattle.calls.specs.Calls.{Call, step}
-use Rattle.demand_steps.proofs.{Own.own, Own.whole-step, Facts.Whole, Classify.leaf, Preserve.preserve, Reading.whole-facts, Wholeness.whole-test}
+use Rattle.demand_steps.proofs.{Own.own, Own.row, Own.whole-step, Facts.Whole, Classify.leaf, Preserve.preserve, Reading.whole-facts, Wholeness.whole-test}
 pub use Rattle.demand_chains.proofs.Granting.{clash}
 
 -- a test that does not hold
@@ -49,6 +49,10 @@ Kept P t = whole (t .state) ≡ true → P t
 -- one test of a step
 pub by : (P : Told → Type 0) {x y : Told} (b : Bool) → (b ≡ true → Kept P x) → (b ≡ false → Kept P y) → Kept P (pick b x y)
 by P b f g = picked (Kept P) b f g
+
+-- a call's own refusals in a row, and what is done where none is given
+pub past : (P : Told → Type 0) (r : Record) → ((why : Refusal) → Kept P (refuse why r)) → (bs : List Bar) {done : Told} → (Clear bs → Kept P done) → Kept P (barring bs r done)
+past P = row (Kept P)
 
 -- a report by its outcome: no Done report is taken, or what it does
 pub outcomes : (P : Told → Type 0) (x : Outcome) {s : Record} {done : Told} →
