@@ -106,7 +106,7 @@ module _ (r : Record) (m : r .revision ≤ top) (w : whole r ≡ true) where
     unfolding own reportStructureOwn structureDone advanced
     report-structure-areas k x =
         replaced (report (structured c o new old) k x) refl s refl (on-step r m w (Call.report (Report.structured (length new) (length old)) k x) Stores
-        (past Stores r (λ why k i. never i) (reportStructureBars r k (length new) (length old)) (λ y.
+        (past Stores r (λ why g k i. never i) (reportStructureBars r k (length new) (length old)) refl (λ y.
         outcomes Stores x (λ a vs n k i. (refl, refl)) (by Stores _ (λ b k i. on-keeps _ _) (λ b k i. on-keeps _ _)))))
 
 -- the table that a report is lent, whether it is refused or not

@@ -65,12 +65,12 @@ module _ (r : Record) (m : r .revision ≤ top) (w : whole r ≡ true) where
   module _ (t : ℕ) (x : Outcome) where
     pub update-reported-phase : Updating (step r (report updated t x))
     unfolding own reportUpdateOwn updateDone adopting
-    update-reported-phase = on-step r m w (report updated t x) Updating (past Updating r (λ why k. stands (unended refl) refl) (reportUpdateBars r t) (λ y.
+    update-reported-phase = on-step r m w (report updated t x) Updating (past Updating r (λ why g k. stands (unended refl) refl) (reportUpdateBars r t) refl (λ y.
         outcomes Updating x (λ a vs n k. stands (unended n) refl) (by Updating _ (λ d k. turns refl refl) (λ d k. stands (differ refl) refl))))
 
     pub rollback-reported-phase : Undoing (step r (report rolledBack t x))
     unfolding own reportRollbackOwn rollbackDone leaving
-    rollback-reported-phase = on-step r m w (report rolledBack t x) Undoing (past Undoing r (λ why k. stands (unended refl) refl) (reportRollbackBars r t) (λ y.
+    rollback-reported-phase = on-step r m w (report rolledBack t x) Undoing (past Undoing r (λ why g k. stands (unended refl) refl) (reportRollbackBars r t) refl (λ y.
         outcomes Undoing x (λ a vs n k. stands (unended n) refl) (by Undoing _ (λ d k. turns refl refl) (λ d k. stands (differ refl) refl))))
 
   pub rollback-asked-phase : RollbackAsked r (step r (ask rollback))
