@@ -15,12 +15,12 @@ use Rattle.wholeness.specs.Whole.{whole}
 use Rattle.log.specs.Log.{sound}
 use Rattle.noting.specs.{Recorded.withLog, Through.leavesThrough}
 use Rattle.step_begins.specs.Beginning.{editOwn}
-use Rattle.step_reports.specs.{Done.onward, Done.advanced, Done.structureDone, Reports.reportStructureOwn}
+use Rattle.step_reports.specs.{Done.onward, Done.advanced, Done.structureDone, Reports.reportStructureBars, Reports.reportStructureOwn}
 use Rattle.calls.specs.{Calls.Report, Calls.Call, Calls.step, Calls.AnyCall.calls, Lending.Stored.structured, Lending.Stored.updated, Lending.Stored.rolledBack, Lending.Lending}
 use Rattle.calls.specs.{Lending.callOf, Lending.fits, Lending.moved, Lending.leavesOf, Lending.Lending.begin, Lending.Lending.report, Lending.Lending.edit}
 use Rattle.demand_steps.proofs.{Own.own, Facts.Whole}
 use Rattle.clauses.specs.{Lending.Stages, Lending.Holds, Lending.SameIdentities, Staging.Begun, Gaps.BeginAnswer, Gaps.Rejects, Recording.unlogged}
-use Rattle.clauses.proofs.{Splitting.by, Splitting.outcomes, Splitting.facts-after, Splitting.on-step, Stagings.begin-answer, Stagings.begin-clauses, Lendings.lends}
+use Rattle.clauses.proofs.{Splitting.by, Splitting.past, Splitting.outcomes, Splitting.facts-after, Splitting.on-step, Stagings.begin-answer, Stagings.begin-clauses, Lendings.lends}
 use Rattle.clauses.proofs.{Lendings.payload-copied, Lendings.pairs-copied, Recorder.fit, Recorder.carried-over}
 
 -- two payloads that were copied with their lengths, which fit, as the record afterwards is whole
@@ -106,8 +106,8 @@ module _ (r : Record) (m : r .revision ≤ top) (w : whole r ≡ true) where
     unfolding own reportStructureOwn structureDone advanced
     report-structure-areas k x =
         replaced (report (structured c o new old) k x) refl s refl (on-step r m w (Call.report (Report.structured (length new) (length old)) k x) Stores
-        (by Stores _ (λ e k i. never i) (λ e. by Stores _ (λ d k i. never i) (λ d.
-        outcomes Stores x (λ a vs n k i. (refl, refl)) (by Stores _ (λ b k i. on-keeps _ _) (λ b k i. on-keeps _ _))))))
+        (past Stores r (λ why g k i. never i) (reportStructureBars r k (length new) (length old)) refl (λ y.
+        outcomes Stores x (λ a vs n k i. (refl, refl)) (by Stores _ (λ b k i. on-keeps _ _) (λ b k i. on-keeps _ _)))))
 
 -- the table that a report is lent, whether it is refused or not
 module _ (r : Record) (t : List ℕ) (k : ℕ) (x : Outcome) (value : ℕ) where

@@ -14,12 +14,12 @@ use Rattle.record.specs.Live as Tickets
 use Rattle.wholeness.specs.Whole.{whole}
 use Rattle.step_asks.specs.Asks.{turned, askStructureOwn, askUpdateOwn, askRollbackOwn}
 use Rattle.step_reports.specs.Done.{leaving, structureDone, updateDone, rollbackDone}
-use Rattle.step_reports.specs.Reports.{reported, reportStructureOwn, reportUpdateOwn, reportRollbackOwn}
+use Rattle.step_reports.specs.Reports.{reported, reportStructureOwn, reportUpdateBars, reportUpdateOwn, reportRollbackBars, reportRollbackOwn}
 use Rattle.calls.specs.{Calls.step, Calls.Work.structure, Calls.Work.update, Calls.Work.rollback, Calls.Report.structured, Calls.Report.updated, Calls.Report.rolledBack}
 use Rattle.calls.specs.{Calls.Call.ask, Calls.Call.report}
 use Rattle.demand_steps.proofs.{Own.own, Moves.choice, Moves.turn}
 use Rattle.clauses.specs.Gaps.{Succeeds, StructureAsked, AtFinished, RollbackAsked}
-use Rattle.clauses.proofs.Splitting.{clash, fitted, differ, unended, by, outcomes, on-step}
+use Rattle.clauses.proofs.Splitting.{clash, fitted, differ, unended, by, past, outcomes, on-step}
 use Rattle.clauses.proofs.Onward.{no-successor, ended, exclusive, onwards}
 
 module _ (r : Record) (m : r .revision ≤ top) (w : whole r ≡ true) where
@@ -65,12 +65,12 @@ module _ (r : Record) (m : r .revision ≤ top) (w : whole r ≡ true) where
   module _ (t : ℕ) (x : Outcome) where
     pub update-reported-phase : Updating (step r (report updated t x))
     unfolding own reportUpdateOwn updateDone adopting
-    update-reported-phase = on-step r m w (report updated t x) Updating (by Updating _ (λ e k. stands (unended refl) refl) (λ e.
+    update-reported-phase = on-step r m w (report updated t x) Updating (past Updating r (λ why g k. stands (unended refl) refl) (reportUpdateBars r t) refl (λ y.
         outcomes Updating x (λ a vs n k. stands (unended n) refl) (by Updating _ (λ d k. turns refl refl) (λ d k. stands (differ refl) refl))))
 
     pub rollback-reported-phase : Undoing (step r (report rolledBack t x))
     unfolding own reportRollbackOwn rollbackDone leaving
-    rollback-reported-phase = on-step r m w (report rolledBack t x) Undoing (by Undoing _ (λ e k. stands (unended refl) refl) (λ e.
+    rollback-reported-phase = on-step r m w (report rolledBack t x) Undoing (past Undoing r (λ why g k. stands (unended refl) refl) (reportRollbackBars r t) refl (λ y.
         outcomes Undoing x (λ a vs n k. stands (unended n) refl) (by Undoing _ (λ d k. turns refl refl) (λ d k. stands (differ refl) refl))))
 
   pub rollback-asked-phase : RollbackAsked r (step r (ask rollback))

@@ -10,11 +10,12 @@ use Rattle.record.specs.{Classes.taken, Classes.Class.refusal, Classes.Class.st
 use Rattle.record.specs.{declared.Record.Record, declared.Outcome.Outcome, declared.Refusal.the-variants.Recovering}
 use Rattle.wholeness.specs.Whole.{whole, complete}
 use Rattle.step_asks.specs.Asks.{askUpdateOwn, turned, askRollbackOwn}
-use Rattle.step_reports.specs.{Done.updateDone, Done.leaving, Done.rollbackDone, Reports.reportUpdateOwn, Reports.reportRollbackOwn}
+use Rattle.step_reports.specs.Done.{updateDone, leaving, rollbackDone}
+use Rattle.step_reports.specs.Reports.{reportUpdateBars, reportUpdateOwn, reportRollbackBars, reportRollbackOwn}
 use Rattle.calls.specs.{Calls.step, Calls.Work.update, Calls.Work.rollback, Calls.Report.updated, Calls.Report.rolledBack, Calls.Call.ask, Calls.Call.report}
 use Rattle.demand_steps.proofs.{Own.own, Reading.whole-facts, Testing.ranges, Wholeness.updates-test, Tickets.onUpdate, Tickets.onRollback}
 use Rattle.clauses.specs.{Keeping.gained, Keeping.SameStaged, Keeping.Framed, Polls.unfinished, Polls.UpdateClauses, Polls.RollbackClauses}
-use Rattle.clauses.proofs.Splitting.{clash, nope, differ, unended, by, outcomes, on-step}
+use Rattle.clauses.proofs.Splitting.{clash, nope, differ, unended, beyond, by, past, outcomes, on-step}
 
 -- 0 or 5, and neither
 astray : {P : Type 0} (p : ℕ) → eqb p 0 or eqb p 5 ≡ true → p ≢ 0 → p ≢ 5 → P
@@ -47,7 +48,8 @@ module _ (r : Record) (m : r .revision ≤ top) (w : whole r ≡ true) where
     pub update-reported : Updates (step r (report updated t x))
     unfolding own reportUpdateOwn updateDone adopting complete
     update-reported = on-step r m w (report updated t x) Updates
-        (by Updates _ (λ e k. refuses (search) refl refl never (λ i. nope)) (λ e. let v = whole-facts r m w in let y = onUpdate v (not-false _ e) in let h = updates-test _ (y .place) in
+        (past Updates r (λ why g k. refuses (search) refl refl (clash _ g) (λ i j. clash _ j (beyond why g))) (reportUpdateBars r t) refl (λ e.
+        let v = whole-facts r m w in let y = onUpdate v (not-false _ (e .0)) in let h = updates-test _ (y .place) in
         outcomes Updates x
         (λ a vs n k. placed h (search) (unended n) (λ i. no-right _ (ne-eqb _ _ (λ (j : r .applied ≡ r .entries). omega (arith, v .size, y .tried)))))
         (by Updates _ (λ d k. placed h (search) (λ i. join (ap not (y .ahead)) d) nope) (λ d k. placed h (search) (differ refl) nope))))
@@ -77,7 +79,8 @@ module _ (r : Record) (m : r .revision ≤ top) (w : whole r ≡ true) where
     pub rollback-reported : Rollbacks (step r (report rolledBack t x))
     unfolding own reportRollbackOwn rollbackDone leaving
     rollback-reported = on-step r m w (report rolledBack t x) Rollbacks
-        (by Rollbacks _ (λ e k. stays (search) refl refl refl) (λ e. let y = onRollback (whole-facts r m w) (not-false _ e) in
+        (past Rollbacks r (λ why g k. stays (search) g (beyond why g) refl) (reportRollbackBars r t) refl (λ e.
+        let y = onRollback (whole-facts r m w) (not-false _ (e .0)) in
         outcomes Rollbacks x (λ a vs n k. restores (search) (y .behind) (unended n) (λ i. y .some))
         (by Rollbacks _ (λ d k. restores (search) (y .behind) (λ i. omega tests) (λ n. absurd (n refl)))
         (λ d k. restores (search) (y .behind) (differ refl) (λ n. omega tests)))))

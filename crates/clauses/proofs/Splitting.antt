@@ -1,21 +1,23 @@
 -- How a clause is shown of a step: on a whole record it is the call's own, whose refusals stand in a row, whose tests are split one by
 -- one, and whose report is split by its outcome. Assumes nothing.
 use Prim.Native.Nat.{ℕ, _≤_}
-use mathlib.Core.{Path._≡_, Path.refl, Path.sym, Path._∙_, Path.ap, Path.subst, Bool.Bool, Bool.true, Bool.false, List.List, List.[], List._∷_, Logic._↔_}
+use mathlib.Core.{Path._≡_, Path.refl, Path.sym, Path._∙_, Path.ap, Path.subst, Bool.Bool, Bool.true, Bool.false, Bool._&&_, List.List, List.[], List._∷_, Logic._↔_}
 use lib.Dec.{eqb}
-use borrow.Author.Tests.{le-ltb}
-use Rattle.choice.specs.Pick.{pick, _or_}
-use Rattle.choice.proofs.{Picks.picked, Tests.never, Tests.neither, Tests.eqb-ne, Tests.tests}
+use borrow.Author.Tests.{le-ltb, ne-eqb}
+use Rattle.choice.specs.Pick.{pick, _and_, _or_}
+use Rattle.choice.proofs.{Picks.picked, Tests.never, Tests.both, Tests.neither, Tests.eqb-ne, Tests.tests}
 use Rattle.areas.specs.Areas.{areaSize, long}
 use Rattle.record.specs.{Classes.Class.performed, Classes.Class.refusal, Classes.Class.stepping, Classes.StepAnswer.finished, Answers.Told, Answers.told, Answers.said}
 use Rattle.record.specs.{Answers.refuse, Given.effectOf, Fields.top, declared.Record.Record, declared.Outcome.Outcome, declared.Refusal.Refusal}
-use Rattle.record.specs.Classes.{Class, StepAnswer, numberOf, refused, takes, taken}
+use Rattle.record.specs.Classes.{Class, StepAnswer, refusalNumber, numberOf, refused, takes, taken}
 use Rattle.record.specs.declared.Outcome.the-variants as O
+use Rattle.record.specs.declared.Refusal.the-variants.{NotReady, Recovering}
 use Rattle.wholeness.specs.{Whole.whole, Gates.Bar, Gates.barring}
 use Rattle.wholeness.proofs.Passing.{Clear}
 use Rattle.step_reports.specs.Reports.{reported}
 use Rattle.calls.specs.Calls.{Call, step}
 use Rattle.demand_steps.proofs.{Own.own, Own.whole-step, Facts.Whole, Classify.leaf, Preserve.preserve, Reading.whole-facts, Wholeness.whole-test}
+use Rattle.clauses.specs.{Keeping.gains, Polls.unfinished}
 pub use Rattle.demand_chains.proofs.Granting.{clash}
 
 -- a test that does not hold
@@ -49,6 +51,24 @@ Kept P t = whole (t .state) ≡ true → P t
 -- one test of a step
 pub by : (P : Told → Type 0) {x y : Told} (b : Bool) → (b ≡ true → Kept P x) → (b ≡ false → Kept P y) → Kept P (pick b x y)
 by P b f g = picked (Kept P) b f g
+
+-- a refusal that the clauses gain is neither 4 nor 5
+pub beyond : (why : Refusal) → gains why ≡ true → unfinished (refusal why) ≡ false
+unfolding _or_
+beyond why g =
+    nor (ne-eqb _ (refusalNumber NotReady) (λ (z : refusalNumber why ≡ _). nope (rw z at g)))
+    (ne-eqb _ (refusalNumber Recovering) (λ (z : refusalNumber why ≡ _). nope (rw z at g)))
+
+-- a report's refusals in a row, all of them such, and what is done where none is given
+abbrev pub allGained : List Bar → Bool
+allGained [] = true
+allGained (b ∷ bs) = gains (b .why) && allGained bs
+
+pub past : (P : Told → Type 0) (r : Record) → ((why : Refusal) → gains why ≡ true → Kept P (refuse why r)) →
+    (bs : List Bar) {done : Told} → allGained bs ≡ true → (Clear bs → Kept P done) → Kept P (barring bs r done)
+unfolding _and_
+past P r f [] h g = g refl
+past P r f (b ∷ bs) h g = let x = both {a = gains (b .why)} h in by P (b .test) (λ e. f (b .why) (x .0)) (λ e. past P r f bs (x .1) (λ y. g (e, y)))
 
 -- a report by its outcome: no Done report is taken, or what it does
 pub outcomes : (P : Told → Type 0) (x : Outcome) {s : Record} {done : Told} →

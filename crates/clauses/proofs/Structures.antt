@@ -9,11 +9,11 @@ use Rattle.record.specs.{declared.Outcome.Outcome, declared.Refusal.the-variant
 use Rattle.record.specs.Live as Tickets
 use Rattle.wholeness.specs.Whole.{whole}
 use Rattle.step_asks.specs.Asks.{askStructureOwn}
-use Rattle.step_reports.specs.{Done.structureDone, Reports.reportStructureOwn}
+use Rattle.step_reports.specs.{Done.structureDone, Reports.reportStructureBars, Reports.reportStructureOwn}
 use Rattle.calls.specs.{Calls.step, Calls.Work.structure, Calls.Report.structured, Calls.Call.ask, Calls.Call.report}
 use Rattle.demand_steps.proofs.{Own.own, Reading.whole-facts, Reading.apart-of, Testing.ranges}
-use Rattle.clauses.specs.{Keeping.SameBatch, Keeping.Framed, Polls.unfinished, Structure.StructureClauses, Structure.Advances}
-use Rattle.clauses.proofs.Splitting.{clash, differ, unended, by, outcomes, on-step}
+use Rattle.clauses.specs.{Keeping.gained, Keeping.SameBatch, Keeping.Framed, Polls.unfinished, Structure.StructureClauses, Structure.Advances}
+use Rattle.clauses.proofs.Splitting.{clash, differ, unended, by, past, outcomes, on-step}
 use Rattle.clauses.proofs.Onward.{calm-staged, no-successor, at-boundary, has-one, succeeds, onwards, stepping-on}
 
 -- not the refusal 4
@@ -83,7 +83,7 @@ module _ (r : Record) (m : r .revision ≤ top) (w : whole r ≡ true) where
   pub structure-reported : (t : ℕ) (x : Outcome) (c o : ℕ) → Clauses (step r (report (structured c o) t x))
   unfolding own reportStructureOwn structureDone
   structure-reported t x c o = on-step r m w (report (structured c o) t x) Clauses
-      (by Clauses _ (λ e k. stands (search) (search) (λ i. differ refl) (λ i. refl) (unended refl)) (λ e.
-      by Clauses _ (λ d k. stands (search) (search) (λ i. differ refl) (λ i. refl) (unended refl)) (λ d. let l = not-false _ e in
+      (past Clauses r (λ why g k. stands (search) (search) (λ i j. clash _ g (ap gained j)) (λ i. refl) (unended refl)) (reportStructureBars r t c o) refl (λ e.
+      let l = not-false _ (e .0) in
       outcomes Clauses x (λ a vs n k. stands (search) (search) (λ i. ready refl) (clash _ (succeeds r m w t l)) (unended n))
-      (by Clauses _ (λ b k. goes t l (onwards r m w t l c o) k refl refl (λ i. b)) (λ b k. goes t l (onwards r m w t l c o) k refl refl (differ refl))))))
+      (by Clauses _ (λ b k. goes t l (onwards r m w t l c o) k refl refl (λ i. b)) (λ b k. goes t l (onwards r m w t l c o) k refl refl (differ refl)))))

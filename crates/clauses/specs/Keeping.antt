@@ -1,29 +1,17 @@
 -- What clauses of several functions say alike: which refusals they gain, wholeness, and what a call keeps. Assumes nothing.
 use mathlib.Core.Path.{_≡_}
-use mathlib.Core.Bool.{Bool, true, false}
-use Rattle.record.specs.Classes.{Class}
+use mathlib.Core.Bool.{Bool, true, false, not, _||_}
+use Rattle.record.specs.Classes.{Class, is}
 use Rattle.record.specs.Classes.Class.{performed, refusal, stepping}
 use Rattle.record.specs.Answers.{Told}
 use Rattle.record.specs.declared.Record.{Record}
 use Rattle.record.specs.declared.Refusal.{Refusal}
-use Rattle.record.specs.declared.Refusal.the-variants.{Pending, Idle, Capacity, NotReady, Recovering, BadArea, Damaged, TooLong, TooMany, Stale, Worn, LogFull, NoStatus}
+use Rattle.record.specs.declared.Refusal.the-variants.{Pending, Idle, Capacity, NotReady, Recovering, NoStatus}
 use Rattle.wholeness.specs.Whole.{whole}
 
 -- "Iff clauses gain the refusals 6 to 12; the others hold where none of these is given."
 abbrev pub gains : Refusal → Bool
-gains Pending = false
-gains Idle = false
-gains Capacity = false
-gains NotReady = false
-gains Recovering = false
-gains BadArea = true
-gains Damaged = true
-gains TooLong = true
-gains TooMany = true
-gains Stale = true
-gains Worn = true
-gains LogFull = true
-gains NoStatus = false
+gains why = not (is Pending why || is Idle why || is Capacity why || is NotReady why || is Recovering why || is NoStatus why)
 
 abbrev pub gained : Class → Bool
 gained performed = false

@@ -70,9 +70,9 @@ module _ {w x : Watch} (s : Same w x) (t : ℕ) where
   unfolding hearsReport pick
   notes of a h = record {
     one-more = rw h (notes-one _ _ x refl) ∙ ap (λ (n : ℕ). n + 1) (s .as-much);
-    as-many = report-keeps wanted (λ d u y. refl) of t works a x ∙ s .as-many;
-    running = report-keeps (λ (y : Watch). y .running) (λ d u y. refl) of t works a x ∙ s .running;
-    turned = report-keeps (λ (y : Watch). y .turned) (λ d u y. refl) of t works a x ∙ s .turned;
+    as-many = report-keeps wanted (λ d u y. refl) of t a x ∙ s .as-many;
+    running = report-keeps (λ (y : Watch). y .running) (λ d u y. refl) of t a x ∙ s .running;
+    turned = report-keeps (λ (y : Watch). y .turned) (λ d u y. refl) of t a x ∙ s .turned;
   }
 
   noted : {c d : Call} (a : Said) → taken (a .class) ≡ true → DoneReport t c d → Noted w (sees x d a)

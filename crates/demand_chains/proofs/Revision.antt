@@ -34,7 +34,7 @@ alike s v i n = record { runs = λ h. i ∙ h ∙ sym s; gains = omega arith }
 
 reports : {r q : Record} (of : Report) (t : ℕ) (s : StepAnswer) (w : Watch) → q .staged ≡ r .staged → q .revision ≡ r .revision → Known r q w (hearsReport of t works (said (stepping s) []) w)
 reports of t s w e v =
-    alike e v (report-keeps (λ (x : Watch). x .running) (λ d u x. refl) of t works _ w) (report-keeps (λ (x : Watch). x .commits) (λ d u x. refl) of t works _ w)
+    alike e v (report-keeps (λ (x : Watch). x .running) (λ d u x. refl) of t _ w) (report-keeps (λ (x : Watch). x .commits) (λ d u x. refl) of t _ w)
 
 known : {r : Record} {c : Call} {x : Told} (w : Watch) → Leaf r c x → Known r (x .state) w (sees w c (saidOf x))
 unfolding sees begun turned adopting opening advanced pick

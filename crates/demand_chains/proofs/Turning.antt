@@ -49,10 +49,10 @@ record Stays (w later : Watch) : Type 0 where
 
 report-stays : (of : Report) (t : ℕ) (a : Said) (w : Watch) → w .running ≡ true → w .turned ≡ true → Stays w (hearsReport of t works a w)
 report-stays of t a w i v = record {
-  running = report-keeps (λ (x : Watch). x .running) (λ d u x. refl) of t works a w ∙ i;
-  turned = report-keeps (λ (x : Watch). x .turned) (λ d u x. refl) of t works a w ∙ v;
-  structural = report-keeps (λ (x : Watch). x .structural) (λ d u x. refl) of t works a w;
-  started = report-keeps (λ (x : Watch). x .started) (λ d u x. refl) of t works a w;
+  running = report-keeps (λ (x : Watch). x .running) (λ d u x. refl) of t a w ∙ i;
+  turned = report-keeps (λ (x : Watch). x .turned) (λ d u x. refl) of t a w ∙ v;
+  structural = report-keeps (λ (x : Watch). x .structural) (λ d u x. refl) of t a w;
+  started = report-keeps (λ (x : Watch). x .started) (λ d u x. refl) of t a w;
 }
 
 module _ {r : Record} (w : Watch) (d : Tied w r) (i : w .running ≡ true) (v : w .turned ≡ true) where

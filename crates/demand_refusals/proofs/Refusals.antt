@@ -20,14 +20,15 @@ use Rattle.record.specs.declared.Refusal.{Refusal}
 use Rattle.record.specs.declared.Refusal.the-variants.{NotReady, Recovering, BadArea, Damaged, Worn}
 use Rattle.log.specs.Kinds.{reports}
 use Rattle.wholeness.specs.Whole.{whole}
-use Rattle.wholeness.specs.Gates.{gateOf, gated, Bar, barring, longPayloads, longSnapshot}
+use Rattle.wholeness.specs.Gates.{gateOf, gated, Bar, barring, longSnapshot}
 use Rattle.wholeness.specs.declared.Gate.the-variants.{Open, Shut}
 use Rattle.wholeness.proofs.Facts.{parts, live-structure}
+use Rattle.wholeness.proofs.Passing.{Clear}
 use Rattle.step_begins.specs.Opening.{unopened, openBars, openStep}
 use Rattle.step_begins.specs.Beginning.{beginBars, beginOwn, editBars, editOwn}
 use Rattle.step_asks.specs.Asks.{askStructureOwn, askUpdateOwn, askRollbackOwn}
 use Rattle.step_reports.specs.Done.{onward, advanced, structureDone, updateDone, rollbackDone}
-use Rattle.step_reports.specs.Reports.{reported, reportStructureOwn, reportUpdateBars, reportUpdateOwn, reportRollbackBars, reportRollbackOwn}
+use Rattle.step_reports.specs.Reports.{reported, reportStructureBars, reportStructureOwn, reportUpdateBars, reportUpdateOwn, reportRollbackBars, reportRollbackOwn}
 use Rattle.step_ends.specs.Ending.{commitBars, commitOwn, unrestored, recoverBars, recoverOwn, recoverRetainedOwn, refreshBars, refreshOwn}
 use Rattle.step_stamps.specs.Stamping.{stampStep, checkStep}
 use Rattle.calls.specs.Calls.{AnyCall, stepOf}
@@ -58,9 +59,9 @@ module _ (r : Record) where
   refuses : (why : Refusal) (b : Bool) {y : Told} {rest : List Row} → Tells y rest → Tells (pick b (refuse why r) y) (refusalNumber why when b ∷ rest)
   refuses why b f = row b (stays refl refl refl) (λ _. f)
 
-  bars : (bs : List Bar) {done : Told} {rest : List Row} → Tells done rest → Tells (barring bs r done) (barRows bs rest)
-  bars [] f = f
-  bars (b ∷ bs) f = refuses (b .why) (b .test) (bars bs f)
+  bars : (bs : List Bar) {done : Told} {rest : List Row} → (Clear bs → Tells done rest) → Tells (barring bs r done) (barRows bs rest)
+  bars [] f = f refl
+  bars (b ∷ bs) f = row (b .test) (stays refl refl refl) (λ e. bars bs (λ x. f (e, x)))
 
   -- the gate's refusals 6 and 7, before what an open gate gives
   gate : {own : Told} {rest : List Row} (sized sound : Bool) → (whole r ≡ true → Tells own rest)
@@ -97,7 +98,7 @@ module _ (sized sound : Bool) (r : Record) where
   -- a call with a row of refusals of its own, which else is performed
   performs : (bs : List Bar) (done : Told) → done .class ≡ performed → done .number ≡ 0
       → Tells r (gated (gateOf sized sound r) r (barring bs r done)) (gateRows sized sound r (barRows bs doneRows))
-  performs bs done c e = gate r sized sound (λ _. bars r bs (last e (ap numberOf c) (ap refused c)))
+  performs bs done c e = gate r sized sound (λ _. bars r bs (λ _. last e (ap numberOf c) (ap refused c)))
 
   -- a call fits its rows, whose numbers are listed; a report is answered neither 4 nor 5
   abbrev Spoken : AnyCall → Type 0
@@ -108,7 +109,7 @@ module _ (sized sound : Bool) (r : Record) where
 
   pub spoken : (c : AnyCall) → Spoken c
   unfolding returned rows numbersOf among distinct kindOf _and_ _or_ openStep beginOwn askStructureOwn askUpdateOwn askRollbackOwn reportStructureOwn reportUpdateOwn reportRollbackOwn updateDone rollbackDone editOwn commitOwn unrestored recoverOwn recoverRetainedOwn refreshOwn stampStep checkStep
-  spoken (opens given n) = (bars unopened (openBars sized n) (last refl refl refl), (refl, refl), refl)
+  spoken (opens given n) = (bars unopened (openBars sized n) (λ _. last refl refl refl), (refl, refl), refl)
   spoken (calls (begin structural b)) = (performs (beginBars r b) _ refl refl, (refl, refl), refl)
   spoken (calls (ask structure)) =
       (gate r sized sound (λ _. refuses r NotReady _ (row _ (goes refl refl refl) (λ _. refuses r Worn _ (last refl refl refl)))), (refl, refl), refl)
@@ -120,13 +121,13 @@ module _ (sized sound : Bool) (r : Record) where
     refl,
   )
   spoken (calls (report (structured c o) t x)) = (
-    gate r sized sound (λ w. row _ (stays refl refl refl) (λ e. bars r (longPayloads c o [])
-        (structure-outcomes r _ x (live-structure _ t _ _ _ _ _ _ (parts w .live) (not-false _ e))))),
+    gate r sized sound (λ w. bars r (reportStructureBars r t c o) (λ e.
+        structure-outcomes r _ x (live-structure _ t _ _ _ _ _ _ (parts w .live) (not-false _ (e .0))))),
     (refl, refl),
     refl,
   )
-  spoken (calls (report updated t x)) = (gate r sized sound (λ _. bars r (reportUpdateBars r t) (outcomes r x _ _ _ _)), (refl, refl), refl)
-  spoken (calls (report rolledBack t x)) = (gate r sized sound (λ _. bars r (reportRollbackBars r t) (outcomes r x _ _ _ _)), (refl, refl), refl)
+  spoken (calls (report updated t x)) = (gate r sized sound (λ _. bars r (reportUpdateBars r t) (λ _. outcomes r x _ _ _ _)), (refl, refl), refl)
+  spoken (calls (report rolledBack t x)) = (gate r sized sound (λ _. bars r (reportRollbackBars r t) (λ _. outcomes r x _ _ _ _)), (refl, refl), refl)
   spoken (calls (edit c o)) = (performs (editBars r c o) _ refl refl, (refl, refl), refl)
   spoken (calls commit) = (performs (commitBars r) _ refl refl, (refl, refl), refl)
   spoken (calls (recover n)) = (performs (recoverBars r (longSnapshot n [])) _ refl refl, (refl, refl), refl)

@@ -6,20 +6,18 @@ use Rattle.choice.proofs.Picks.{each}
 use Rattle.phases.specs.declared.Next.{Next}
 use Rattle.phases.specs.declared.Next.the-variants.{To, Nowhere}
 use Rattle.record.specs.Answers.{Said}
-use Rattle.record.specs.Given.{Effect}
-use Rattle.record.specs.Given.Effect.{rests, works}
+use Rattle.record.specs.Given.Effect.{works}
 use Rattle.record.specs.Fields.{withPlace}
 use Rattle.record.specs.declared.Record.{Record}
 use Rattle.step_reports.specs.Done.{onward}
 use Rattle.calls.specs.Calls.{Report}
 use Rattle.demand_steps.specs.Watching.{Item, Watch, lists, hearsReport}
 
--- of the watcher, a report that is seen changes the two lists alone
-pub report-keeps : {A : Type 0} (f : Watch → A) → ((d u : List Item) (w : Watch) → f (lists d u w) ≡ f w) → (of : Report) (t : ℕ) (x : Effect) (a : Said) (w : Watch) →
-    f (hearsReport of t x a w) ≡ f w
+-- of the watcher, a Done report changes the two lists alone
+pub report-keeps : {A : Type 0} (f : Watch → A) → ((d u : List Item) (w : Watch) → f (lists d u w) ≡ f w) → (of : Report) (t : ℕ) (a : Said) (w : Watch) →
+    f (hearsReport of t works a w) ≡ f w
 unfolding hearsReport
-report-keeps f same of t (rests answer) a w = refl
-report-keeps f same of t works a w = let P : Watch → Type 0 = λ y. f y ≡ f w in each P _ (each P _ (same _ _ w) (same _ _ w)) refl
+report-keeps f same of t a w = let P : Watch → Type 0 = λ y. f y ≡ f w in each P _ (each P _ (same _ _ w) (same _ _ w)) refl
 
 -- of the record, going on changes the place alone
 pub onward-keeps : {A : Type 0} (f : Record → A) → ((p a b : ℕ) (r : Record) → f (withPlace p a b r) ≡ f r) → (next : Next) (r : Record) → f (onward next r) ≡ f r
