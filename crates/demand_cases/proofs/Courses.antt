@@ -7,6 +7,7 @@ use mathlib.Core.List.{List, [], _∷_, _++_, map}
 use mathlib.Core.Logic.{_≢_}
 use native.Mathlib.Omega.{arith}
 use Rattle.choice.proofs.Tests.{never, eqb-ne}
+use Rattle.areas.specs.Areas.{areaSize}
 use Rattle.record.specs.Fields.{top}
 use Rattle.record.specs.Given.{at, beginning}
 use Rattle.record.specs.declared.Record.{Record}
@@ -64,7 +65,7 @@ abbrev pub rough : List Sent
 rough =
     begun ++ map plainly (ask structure ∷ report (structured 2 2) 1 (Failed 9) ∷ ask structure ∷ report (structured 2 2) 2 Waiting ∷ [])
     ++ lent (report (structured 2 2) 2 Done) false true false ∷ lent (ask structure) true false false ∷ lent (ask structure) true true true
-    ∷ map plainly (begin true (beginning 2 2 2) ∷ commit ∷ ask update ∷ report (structured 2 2) 2 Done ∷ edit 2 4097 ∷ [])
+    ∷ map plainly (begin true (beginning 2 2 2) ∷ commit ∷ ask update ∷ report (structured 2 2) 2 Done ∷ edit 2 (areaSize + 1) ∷ [])
 
 -- none of it counts, and the due asking is granted
 pub rough-met : (numbers start rough ≡ 0 ∷ 20 ∷ 22 ∷ 20 ∷ 21 ∷ 6 ∷ 7 ∷ 12 ∷ 1 ∷ 4 ∷ 5 ∷ 10 ∷ 8 ∷ [])
@@ -97,12 +98,12 @@ undone =
     ++ map plainly (ask update ∷ ask rollback ∷ report rolledBack 6 Done ∷ []) ++ settles 7 ++ settles 8 ++ settles 9 ++ settles 10
 
 pub undone-met : (seen undone .undone ≡ undo 0 ∷ settle 9 ∷ settle 10 ∷ settle 11 ∷ settle 12 ∷ [])
-    × (performs (now undone) recoverRetained ≡ true) × (called (now undone) (recover 4096) .number ≡ 0) × (called (now undone) (recover 4097) .number ≡ 8)
+    × (performs (now undone) recoverRetained ≡ true) × (called (now undone) (recover areaSize) .number ≡ 0) × (called (now undone) (recover (areaSize + 1)) .number ≡ 8)
 unfolding now seen
 undone-met =
     let b = demand undone .recovery-exactly refl refl in
     let r = demand undone .recovery-back refl refl in
-    (b .order, b .exact, r .given 4096, r .given 4097)
+    (b .order, b .exact, r .given areaSize, r .given (areaSize + 1))
 
 -- an update-only transaction of two updates, ready for commit after 2 reports, with a failure; t is its first ticket
 abbrev pub updates : ℕ → List Sent

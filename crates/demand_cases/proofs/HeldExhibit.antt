@@ -1,12 +1,14 @@
 -- Chains of real calls to which the theorems on such chains are applied. In one the caller holds an exchange area that is a byte short
 -- and a log with room for one event, so that a recovery is answered 6 and an asking 12; an update fails and is then done. The other is
 -- document 01's, "The log": its sixteen words, computed from the definitions. Assumes nothing.
-use Prim.Native.Nat.{ℕ}
+use Prim.Native.Nat.{ℕ, _-_}
 use mathlib.Core.Path.{_≡_, refl}
 use mathlib.Core.Bool.{true, false}
 use mathlib.Core.List.{List, [], _∷_, _++_, map}
 use lib.ListN.{getD, replicate}
 use native.Mathlib.Omega.{arith}
+use Rattle.areas.specs.Areas.{areaSize}
+use Rattle.batch.specs.Batch.{tableWords}
 use Rattle.record.specs.Answers.{saidOf}
 use Rattle.record.specs.Leaves.{Leaves}
 use Rattle.record.specs.Given.{at}
@@ -31,10 +33,10 @@ use Rattle.demand_cases.specs.Cases.{taken}
 use Rattle.demand_cases.proofs.Computing.{called, performs, heldAfter, heldSeen}
 
 abbrev area : List ℕ
-area = replicate 4096 0
+area = replicate areaSize 0
 
 abbrev table : List ℕ
-table = replicate 128 0
+table = replicate tableWords 0
 
 abbrev payload : List ℕ
 payload = 1 ∷ 2 ∷ 3 ∷ []
@@ -43,7 +45,7 @@ abbrev opened : Leaves
 opened = leavesOf unopened (Lending.openAt (at 7 0) area payload)
 
 abbrev pub held : Held
-held = holding (opened .told .state) (getD (opened .lent) 0 []) area area (replicate 4095 0) table (blank (replicate 8 0))
+held = holding (opened .told .state) (getD (opened .lent) 0 []) area area (replicate (areaSize - 1) 0) table (blank (replicate 8 0))
 
 abbrev pub working : List Doing
 working =
@@ -55,8 +57,8 @@ ended = working ++ transacts commit ∷ []
 
 -- what is answered; the commit exchanges the areas, and the table has the last payload
 pub held-computed : (map (λ (h : Heard). h .answer .number) (heardHeld held ended) ≡ 0 ∷ 12 ∷ 6 ∷ 20 ∷ 22 ∷ 20 ∷ 24 ∷ 0 ∷ [])
-    × (heldAfter held ended .accepted ≡ 4 ∷ 5 ∷ replicate 4094 0) × (heldAfter held ended .candidate ≡ 1 ∷ 2 ∷ 3 ∷ replicate 4093 0)
-    × (heldAfter held ended .table ≡ 10 ∷ 40 ∷ replicate 126 0)
+    × (heldAfter held ended .accepted ≡ 4 ∷ 5 ∷ replicate (areaSize - 2) 0) × (heldAfter held ended .candidate ≡ 1 ∷ 2 ∷ 3 ∷ replicate (areaSize - 3) 0)
+    × (heldAfter held ended .table ≡ 10 ∷ 40 ∷ replicate (tableWords - 2) 0)
 unfolding heldAfter heldSeen
 held-computed = (refl, refl, refl, refl)
 

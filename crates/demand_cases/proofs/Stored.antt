@@ -1,10 +1,12 @@
 -- Chains from a stored record, staged and in phase 5, to which the theorems from any whole record are applied: with one update of three
 -- reported and another started it is carried to its commit, or rolled back to its recovery. Assumes nothing.
+use Prim.Native.Nat.{_+_}
 use mathlib.Core.Path.{_≡_, refl, sym}
 use mathlib.Core.Bool.{true, false}
 use mathlib.Core.List.{List, [], _∷_, _++_, map}
 use native.Mathlib.Omega.{arith}
 use Rattle.choice.proofs.Tests.{never, eqb-ne}
+use Rattle.areas.specs.Areas.{areaSize}
 use Rattle.record.specs.declared.Record.{Record}
 use Rattle.record.specs.declared.Outcome.the-variants.{Waiting, Done}
 use Rattle.wholeness.specs.Whole.{whole}
@@ -81,13 +83,13 @@ undoing =
     ++ settles 5 ++ settles 6 ++ settles 7 ++ settles 8
 
 pub undoing-met : (seen (turned ++ undoing) .undone ≡ undo 1 ∷ undo 0 ∷ settle 9 ∷ settle 10 ∷ settle 11 ∷ settle 12 ∷ [])
-    × (performs (now (turned ++ undoing)) recoverRetained ≡ true) × (called (now (turned ++ undoing)) (recover 4097) .number ≡ 8)
+    × (performs (now (turned ++ undoing)) recoverRetained ≡ true) × (called (now (turned ++ undoing)) (recover (areaSize + 1)) .number ≡ 8)
     × (called (now (turned ++ undoing)) commit .number ≡ 4)
 unfolding now seen recoveredIn
 undoing-met =
     let b = demand (turned ++ undoing) .recovery-exactly refl refl in (
       b .order,
       b .exact,
-      demand (turned ++ undoing) .recovery-back refl refl .given 4097,
+      demand (turned ++ undoing) .recovery-back refl refl .given (areaSize + 1),
       demand turned .until-recovery undoing refl refl refl .uncommitted,
     )
