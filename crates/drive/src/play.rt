@@ -41,10 +41,7 @@ use record::Stepped;
 
 // The record of an opening at 0, 0 with an empty payload.
 fn first_record() -> Record {
-    let given = Opening {
-        revision: 0,
-        serial: 0,
-    };
+    let given = Opening::start();
     let opened = transaction::would_open(true, given, 0);
     opened.state
 }
@@ -115,7 +112,7 @@ fn perform(
     match command {
         Command::Plain(which) => plain::perform(which, record, lent, numbers),
         Command::Whole(which) => {
-            let told = whole::perform(which, numbers, a, c, r, x, t, l, g, s);
+            let told = whole::perform(which, numbers, t, l, a, c, r, x, g, s);
             leaving(record, lent, told)
         }
         Command::Call(which) => {

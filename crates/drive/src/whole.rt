@@ -39,17 +39,17 @@ fn put_word(words: &mut [u64], at: usize, value: u64) -> Told {
     }
 }
 
-// One command, with areas by the letters of a script: a accepted, c candidate, r recovery, x exchange, t the table, l the log, g groups,
-// s status.
+// One command, over words and then bytes, by the letters of a script: t the table, l the log, a accepted, c candidate, r recovery,
+// x exchange, g groups, s status.
 pub(crate) fn perform(
     which: Whole,
     numbers: [u64; NUMBERS],
+    t: &mut [u64],
+    l: &mut [u64],
     a: &mut [u8],
     c: &mut [u8],
     r: &mut [u8],
     x: &mut [u8],
-    t: &mut [u64],
-    l: &mut [u64],
     g: &mut [u8],
     s: &mut [u8],
 ) -> Told {

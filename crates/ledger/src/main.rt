@@ -42,11 +42,7 @@ fn main() {
     let mut candidate = [0u8; AREA];
     let mut recovery = [0u8; AREA];
     let mut table = [0u64; TABLE];
-    let given = Opening {
-        revision: 0,
-        serial: 0,
-    };
-    let opened = recorder::open(given, &mut log, &mut accepted, b"");
+    let opened = recorder::open(Opening::start(), &mut log, &mut accepted, b"");
     reload(
         opened.state,
         &mut log,
