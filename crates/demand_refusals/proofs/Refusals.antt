@@ -12,6 +12,7 @@ use Rattle.record.specs.Classes.{refusalNumber, numberOf, refused}
 use Rattle.record.specs.Classes.Class.{performed}
 use Rattle.record.specs.Answers.{Told, told, answer, refuse}
 use Rattle.record.specs.Given.{effectOf}
+use Rattle.record.specs.Fields.{spent}
 use Rattle.record.specs.declared.Record.{Record}
 use Rattle.record.specs.declared.Answer.the-variants.{More, Finished}
 use Rattle.record.specs.declared.Outcome.{Outcome}
@@ -28,7 +29,7 @@ use Rattle.step_begins.specs.Opening.{unopened, openBars, openStep}
 use Rattle.step_begins.specs.Beginning.{beginBars, beginOwn, editBars, editOwn}
 use Rattle.step_asks.specs.Asks.{askStructureOwn, askUpdateOwn, askRollbackOwn}
 use Rattle.step_reports.specs.Done.{onward, advanced, structureDone, updateDone, rollbackDone}
-use Rattle.step_reports.specs.Reports.{reported, reportStructureBars, reportStructureOwn, reportUpdateBars, reportUpdateOwn, reportRollbackBars, reportRollbackOwn}
+use Rattle.step_reports.specs.Reports.{reported, storing, reportStructureBars, reportStructureOwn, reportUpdateBars, reportUpdateOwn, reportRollbackBars, reportRollbackOwn}
 use Rattle.step_ends.specs.Ending.{commitBars, commitOwn, unrestored, recoverBars, recoverOwn, recoverRetainedOwn, refreshBars, refreshOwn}
 use Rattle.step_stamps.specs.Stamping.{stampStep, checkStep}
 use Rattle.calls.specs.Calls.{AnyCall, stepOf}
@@ -88,10 +89,12 @@ next-phase : (r : Record) → hasSuccessor (r .phase .number) ≡ true → advan
 unfolding advanced onward successor pick
 next-phase r h = simp h
 
-structure-outcomes : (r s : Record) (x : Outcome) → hasSuccessor (s .phase .number) ≡ true
-    → Tells r (reported (effectOf x) s (structureDone s)) (reportRows x (boundary (s .phase .number + 1)))
+structure-outcomes : (r : Record) (t c o : ℕ) (x : Outcome) → whole r ≡ true → Clear (reportStructureBars r t c o) → let s = spent (storing c o r) in
+    Tells r (reported (effectOf x) s (structureDone s)) (reportRows x (boundary (r .phase .number + 1)))
 unfolding structureDone
-structure-outcomes r s x h =
+structure-outcomes r t c o x w e =
+    let s = spent (storing c o r) in
+    let h = live-structure _ t _ _ _ _ _ _ (parts w .live) (not-false _ (e .0)) in
     subst (λ (p : ℕ). Tells r (reported (effectOf x) s (structureDone s)) (reportRows x (boundary p))) (next-phase s h) (outcomes r x _ _ _ _)
 
 module _ (sized sound : Bool) (r : Record) where
@@ -120,12 +123,8 @@ module _ (sized sound : Bool) (r : Record) where
     (refl, refl),
     refl,
   )
-  spoken (calls (report (structured c o) t x)) = (
-    gate r sized sound (λ w. bars r (reportStructureBars r t c o) (λ e.
-        structure-outcomes r _ x (live-structure _ t _ _ _ _ _ _ (parts w .live) (not-false _ (e .0))))),
-    (refl, refl),
-    refl,
-  )
+  spoken (calls (report (structured c o) t x)) =
+      (gate r sized sound (λ w. bars r (reportStructureBars r t c o) (structure-outcomes r t c o x w)), (refl, refl), refl)
   spoken (calls (report updated t x)) = (gate r sized sound (λ _. bars r (reportUpdateBars r t) (λ _. outcomes r x _ _ _ _)), (refl, refl), refl)
   spoken (calls (report rolledBack t x)) = (gate r sized sound (λ _. bars r (reportRollbackBars r t) (λ _. outcomes r x _ _ _ _)), (refl, refl), refl)
   spoken (calls (edit c o)) = (performs (editBars r c o) _ refl refl, (refl, refl), refl)

@@ -1,7 +1,7 @@
 -- Document 01, "What a call answers": the classes of answers with their numbers, and which of them are refusals, successful, granted,
 -- tickets, taken and written. No other file tells answers apart by a number. Assumes nothing.
 use Prim.Native.Nat.{ℕ}
-use mathlib.Core.Bool.{Bool, true, false}
+use mathlib.Core.Bool.{Bool, true, false, _||_}
 use lib.Dec.{eqb}
 use Rattle.choice.specs.Pick.{_or_}
 use Rattle.record.specs.declared.Refusal.{Refusal}
@@ -57,13 +57,13 @@ successful performed = true
 successful (refusal why) = false
 successful (stepping s) = false
 
+-- a step answer is this one
+abbrev pub isStep : StepAnswer → StepAnswer → Bool
+isStep this s = eqb (stepNumber s) (stepNumber this)
+
 -- "Granted means Ticket or Finished."
 abbrev pub grants : StepAnswer → Bool
-grants ticket = true
-grants waiting = false
-grants failed = false
-grants more = false
-grants finished = true
+grants s = isStep ticket s || isStep finished s
 
 abbrev pub granted : Class → Bool
 granted performed = false
@@ -72,11 +72,7 @@ granted (stepping s) = grants s
 
 -- "or a ticket: serial plus one, live."
 abbrev pub tickets : StepAnswer → Bool
-tickets ticket = true
-tickets waiting = false
-tickets failed = false
-tickets more = false
-tickets finished = false
+tickets s = isStep ticket s
 
 abbrev pub ticketed : Class → Bool
 ticketed performed = false
@@ -85,11 +81,7 @@ ticketed (stepping s) = tickets s
 
 -- a Done report that is taken "answers Finished .., else More"
 abbrev pub takes : StepAnswer → Bool
-takes ticket = false
-takes waiting = false
-takes failed = false
-takes more = true
-takes finished = true
+takes s = isStep more s || isStep finished s
 
 abbrev pub taken : Class → Bool
 taken performed = false
