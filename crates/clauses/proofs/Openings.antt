@@ -40,7 +40,8 @@ module _ (given : Opening) (m : given .revision ≤ top) where
     pub open-clauses : OpenClauses sizes given l (openStep sizes given l)
     unfolding opening long
     open-clauses = record {
-      fits = decides opened refl (λ x. let f = fails (openBars sizes l) x in (not-false _ (f BadArea), ltb-false _ _ (f TooLong))) (λ y. (ap not (y .0), (le-ltb _ _ (y .1), refl)));
+      fits = decides opened refl (λ x. let f = fails (openBars sizes l) x in
+          (not-false _ (f BadArea), ltb-false _ _ (f TooLong))) (λ y. (ap not (y .0), (le-ltb _ _ (y .1), refl)));
       c107 = wf opened;
       c108 = only (λ t. t .state .accepted ≡ l) opened (λ x. refl);
       c109 = only (λ t. t .state .revision ≡ given .revision) opened (λ x. refl);

@@ -31,7 +31,8 @@ module _ (r : Record) (m : r .revision ≤ top) (w : whole r ≡ true) where
       c225 = keeps (SameBatch r) refreshed (search) (search);
       c226 = keeps (λ s. s .revision ≡ r .revision) refreshed refl refl;
       c227 = keeps (SameStaged r) refreshed (search) (search);
-      c228 = decides refreshed refl (λ x. let f = fails (refreshBars r n) x in (f Pending, ltb-false _ _ (f TooLong))) (λ y. (y .0, (le-ltb _ _ (y .1), refl)));
+      c228 = decides refreshed refl (λ x. let f = fails (refreshBars r n) x in
+          (f Pending, ltb-false _ _ (f TooLong))) (λ y. (y .0, (le-ltb _ _ (y .1), refl)));
       c229 = only (λ t. t .state .accepted ≡ n) refreshed (λ x. refl);
       c230 = only (λ t. t .values ≡ r .accepted ∷ []) refreshed (λ x. refl);
       c231 = λ i. denied refreshed refl i .0;

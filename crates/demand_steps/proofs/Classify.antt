@@ -80,7 +80,8 @@ module _ (r : Record) where
 
   pub classify : (c : Call) → Leaf r c (own r c)
   unfolding own beginOwn editOwn askStructureOwn askUpdateOwn askRollbackOwn reportStructureOwn reportUpdateOwn reportRollbackOwn commitOwn recoverOwn recoverRetainedOwn refreshOwn structureDone updateDone rollbackDone adopting leaving sees
-  classify (begin structural b) = barred (beginBars r b) (λ f. began (f Pending) (eqb-ne _ _ (f Capacity)) (stores _ _ (f TooLong)) (ltb-false _ _ (f TooMany)))
+  classify (begin structural b) =
+      barred (beginBars r b) (λ f. began (f Pending) (eqb-ne _ _ (f Capacity)) (stores _ _ (f TooLong)) (ltb-false _ _ (f TooMany)))
   classify (ask structure) =
       split _ (λ e. refuses _) (λ e₁. split _ (λ e. kept finished-unseen (λ l. l)) (λ e₂. split _ (λ e. refuses _) (λ e₃. structureAsked (open-tests _ e₁ e₂))))
   classify (ask update) =
@@ -105,7 +106,8 @@ module _ (r : Record) where
   classify (recover n) = barred (recoverBars r (longSnapshot n [])) (λ f. recovered (short n (f TooLong)))
   classify recoverRetained = barred (recoverBars r []) (λ f. restored)
   classify (refresh n) =
-      barred (refreshBars r n) (λ f. kept (λ w. refl) (λ l. record { accepted = short n (f TooLong); candidate = l .candidate; recovery = l .recovery }))
+      barred (refreshBars r n) (λ f. kept (λ w. refl) (λ l.
+      record { accepted = short n (f TooLong); candidate = l .candidate; recovery = l .recovery }))
   classify (stamp domain) = split _ (λ e. refuses _) (λ e. kept (λ w. refl) (λ l. l))
   classify (check domain s) = split _ (λ e. kept (λ w. refl) (λ l. l)) (λ e. kept (λ w. refl) (λ l. l))
 
