@@ -11,7 +11,7 @@ use Rattle.areas.specs.Areas.{areaSize, long}
 use Rattle.record.specs.{Classes.Class, Classes.Class.refusal, Answers.Told, Answers.answer, Fields.top, declared.Record.Record, declared.Answer.the-variants.Done}
 use Rattle.record.specs.{declared.Was.the-variants.Three, declared.Refusal.the-variants.Idle, declared.Refusal.the-variants.NotReady}
 use Rattle.wholeness.specs.{Whole.whole, Whole.complete, Gates.Bar, Gates.barring, Gates.longSnapshot}
-use Rattle.wholeness.proofs.Passing.{Clear}
+use Rattle.wholeness.proofs.Passing.{Clear, fails}
 use Rattle.record.specs.Given.{opening}
 use Rattle.step_ends.specs.Ending.{afterCommit, commitBars, commitOwn, unrestored, recoverBars, recoveredTo, recoverOwn, recoverRetainedOwn}
 use Rattle.calls.specs.{Calls.Call, Calls.step, Calls.Call.commit, Calls.Call.recover, Calls.Call.recoverRetained}
@@ -43,7 +43,8 @@ all-applied r e = eqb-true _ _ (both e .1)
 
 module _ (r : Record) (m : r .revision ≤ top) (w : whole r ≡ true) where
   can-commit : Clear (commitBars r) → CanCommit r
-  can-commit x = let y = neither (x .1 .0) in record { staged = not-false _ (x .0); complete = not-false _ (y .0); place = not-false _ (y .1) }
+  can-commit x = let f = fails (commitBars r) x in let y = neither (f NotReady) in
+      record { staged = not-false _ (f Idle); complete = not-false _ (y .0); place = not-false _ (y .1) }
 
   committed : Decided r (Unready r) (answer (Done (Three (r .accepted) (r .recovery) (r .entries))) (opening (afterCommit r) (r .candidate))) (commitBars r) (step r commit)
   unfolding own commitOwn
@@ -74,7 +75,8 @@ module _ (r : Record) (m : r .revision ≤ top) (w : whole r ≡ true) where
 
     can : Clear (recoverBars r next) → CanRecover r n
     unfolding unrestored
-    can x = let y = neither (x .1 .0) in record { staged = not-false _ (x .0); empty = omega (tests, y .0); place = not-false _ (y .1); fits = z .0 (x .1 .1) }
+    can x = let f = fails (recoverBars r next) x in let y = neither (f NotReady) in
+        record { staged = not-false _ (f Idle); empty = omega (tests, y .0); place = not-false _ (y .1); fits = z .0 (x .1 .1) }
 
     clear : CanRecover r n → Clear (recoverBars r next)
     unfolding unrestored

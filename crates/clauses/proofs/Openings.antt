@@ -8,7 +8,9 @@ use Rattle.choice.proofs.{Picks.no, Tests.both}
 use Rattle.areas.specs.Areas.{areaSize, sized, copied, long}
 use Rattle.record.specs.{Classes.Class.performed, Classes.refused, Answers.Told, Answers.answer, Leaves.moving, Given.at, Fields.top, declared.Opening.Opening}
 use Rattle.record.specs.{declared.Answer.the-variants.Done, declared.Was.the-variants.Nothing}
+use Rattle.record.specs.declared.Refusal.the-variants.{BadArea, TooLong}
 use Rattle.wholeness.specs.Whole.{whole}
+use Rattle.wholeness.proofs.Passing.{fails}
 use Rattle.step_begins.specs.Opening.{opening, openBars, openStep}
 use Rattle.log.specs.Log.{headWords, blank}
 use Rattle.events.proofs.Soundness.{blank-is}
@@ -31,12 +33,13 @@ module _ (given : Opening) (m : given .revision ≤ top) where
     wf : {t : Told} → Decided unopened (λ c. refused c ≡ true) (answer (Done Nothing) (opening given l)) (openBars sizes l) t → whole (t .state) ≡ true
     unfolding long
     wf (Decided.refuses n e) = opening-whole (at 0 0) 0 (omega arith) (omega arith)
-    wf (Decided.does x) = opening-whole given l m (ltb-false _ _ (x .1 .0))
+    wf (Decided.does x) = opening-whole given l m (ltb-false _ _ (fails (openBars sizes l) x TooLong))
 
     pub open-clauses : OpenClauses sizes given l (openStep sizes given l)
     unfolding opening long
     open-clauses = record {
-      fits = decides opened refl (λ x. (not-false _ (x .0), ltb-false _ _ (x .1 .0))) (λ y. (ap not (y .0), (le-ltb _ _ (y .1), refl)));
+      fits = decides opened refl (λ x. let f = fails (openBars sizes l) x in
+          (not-false _ (f BadArea), ltb-false _ _ (f TooLong))) (λ y. (ap not (y .0), (le-ltb _ _ (y .1), refl)));
       c107 = wf opened;
       c108 = only (λ t. t .state .accepted ≡ l) opened (λ x. refl);
       c109 = only (λ t. t .state .revision ≡ given .revision) opened (λ x. refl);

@@ -8,7 +8,9 @@ use Rattle.choice.specs.Pick.{_or_}
 use Rattle.choice.proofs.Tests.{never, both, join}
 use Rattle.areas.specs.Areas.{long}
 use Rattle.record.specs.{Classes.refused, Answers.answer, Fields.top, Fields.withLengths, declared.Record.Record, declared.Answer.the-variants.Done, declared.Was.the-variants.One}
+use Rattle.record.specs.declared.Refusal.the-variants.{Pending, TooLong}
 use Rattle.wholeness.specs.Whole.{whole}
+use Rattle.wholeness.proofs.Passing.{fails}
 use Rattle.step_ends.specs.Ending.{refreshBars, refreshOwn}
 use Rattle.step_stamps.specs.{Stamping.passes, declared.SaveStamp.SaveStamp}
 use Rattle.calls.specs.{Calls.step, Calls.Call.refresh, Calls.Call.stamp, Calls.Call.check}
@@ -29,7 +31,8 @@ module _ (r : Record) (m : r .revision ≤ top) (w : whole r ≡ true) where
       c225 = keeps (SameBatch r) refreshed (search) (search);
       c226 = keeps (λ s. s .revision ≡ r .revision) refreshed refl refl;
       c227 = keeps (SameStaged r) refreshed (search) (search);
-      c228 = decides refreshed refl (λ x. (x .0, ltb-false _ _ (x .1 .0))) (λ y. (y .0, (le-ltb _ _ (y .1), refl)));
+      c228 = decides refreshed refl (λ x. let f = fails (refreshBars r n) x in
+          (f Pending, ltb-false _ _ (f TooLong))) (λ y. (y .0, (le-ltb _ _ (y .1), refl)));
       c229 = only (λ t. t .state .accepted ≡ n) refreshed (λ x. refl);
       c230 = only (λ t. t .values ≡ r .accepted ∷ []) refreshed (λ x. refl);
       c231 = λ i. denied refreshed refl i .0;

@@ -6,9 +6,9 @@ use Rattle.choice.specs.Pick.{pick}
 use Rattle.choice.proofs.{Picks.yes, Picks.no, Tests.never, Tests.eqb-ne}
 use Rattle.record.specs.{Classes.Class, Classes.Class.refusal, Answers.Told, Answers.answer, Fields.top, Fields.withLengths, declared.Record.Record, declared.Beginning.Beginning}
 use Rattle.record.specs.{declared.Answer.the-variants.Done, declared.Was.the-variants.Nothing}
-use Rattle.record.specs.declared.Refusal.the-variants.{Pending, Idle, Capacity}
+use Rattle.record.specs.declared.Refusal.the-variants.{Pending, Idle, Capacity, TooLong, TooMany}
 use Rattle.wholeness.specs.{Whole.whole, Gates.Bar}
-use Rattle.wholeness.proofs.Passing.{Clear}
+use Rattle.wholeness.proofs.Passing.{Clear, fails}
 use Rattle.step_begins.specs.Beginning.{firstPhase, begun, beginBars, beginOwn, editBars, editOwn}
 use Rattle.calls.specs.{Calls.step, Calls.Call.begin, Calls.Call.edit}
 use Rattle.demand_steps.proofs.Own.{own}
@@ -34,8 +34,8 @@ module _ (r : Record) (b : Beginning) where
       bar (λ e. (tooMany e₁ (eqb-ne _ _ e₂) (x .0) (x .1) (ltb-true _ _ e), never)) (λ e₄. refl))))
 
   can : Clear (beginBars r b) → CanBegin r b
-  can x = let f = fitting _ _ (x .1 .1 .0) in
-      record { idle = x .0; room = eqb-ne _ _ (x .1 .0); candidate = f .0; recovery = f .1; few = ltb-false _ _ (x .1 .1 .1 .0) }
+  can x = let f = fails (beginBars r b) x in let y = fitting _ _ (f TooLong) in
+      record { idle = f Pending; room = eqb-ne _ _ (f Capacity); candidate = y .0; recovery = y .1; few = ltb-false _ _ (f TooMany) }
 
   clear : CanBegin r b → Clear (beginBars r b)
   clear y = (y .idle, (ne-eqb _ _ (y .room), (fitted (y .candidate) (y .recovery), (le-ltb _ _ (y .few), refl))))

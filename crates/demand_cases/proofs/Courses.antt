@@ -98,7 +98,8 @@ undone =
     ++ map plainly (ask update ∷ ask rollback ∷ report rolledBack 6 Done ∷ []) ++ settles 7 ++ settles 8 ++ settles 9 ++ settles 10
 
 pub undone-met : (seen undone .undone ≡ undo 0 ∷ settle 9 ∷ settle 10 ∷ settle 11 ∷ settle 12 ∷ [])
-    × (performs (now undone) recoverRetained ≡ true) × (called (now undone) (recover areaSize) .number ≡ 0) × (called (now undone) (recover (areaSize + 1)) .number ≡ 8)
+    × (performs (now undone) recoverRetained ≡ true)
+    × (called (now undone) (recover areaSize) .number ≡ 0) × (called (now undone) (recover (areaSize + 1)) .number ≡ 8)
 unfolding now seen
 undone-met =
     let b = demand undone .recovery-exactly refl refl in

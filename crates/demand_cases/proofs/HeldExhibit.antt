@@ -57,7 +57,8 @@ ended = working ++ transacts commit ∷ []
 
 -- what is answered; the commit exchanges the areas, and the table has the last payload
 pub held-computed : (map (λ (h : Heard). h .answer .number) (heardHeld held ended) ≡ 0 ∷ 12 ∷ 6 ∷ 20 ∷ 22 ∷ 20 ∷ 24 ∷ 0 ∷ [])
-    × (heldAfter held ended .accepted ≡ 4 ∷ 5 ∷ replicate (areaSize - 2) 0) × (heldAfter held ended .candidate ≡ 1 ∷ 2 ∷ 3 ∷ replicate (areaSize - 3) 0)
+    × (heldAfter held ended .accepted ≡ 4 ∷ 5 ∷ replicate (areaSize - 2) 0)
+    × (heldAfter held ended .candidate ≡ 1 ∷ 2 ∷ 3 ∷ replicate (areaSize - 3) 0)
     × (heldAfter held ended .table ≡ 10 ∷ 40 ∷ replicate (tableWords - 2) 0)
 unfolding heldAfter heldSeen
 held-computed = (refl, refl, refl, refl)

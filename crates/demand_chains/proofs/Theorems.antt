@@ -14,6 +14,7 @@ use Rattle.record.specs.Answers.{Told}
 use Rattle.record.specs.Fields.{top}
 use Rattle.record.specs.declared.Record.{Record}
 use Rattle.record.specs.declared.Opening.{Opening}
+use Rattle.record.specs.declared.Refusal.the-variants.{TooLong}
 use Rattle.wholeness.specs.Whole.{whole}
 use Rattle.step_begins.specs.Opening.{unopened, openBars, opening, openStep}
 use Rattle.calls.specs.Calls.{Call}
@@ -54,7 +55,7 @@ module _ (sized : Bool) (given : Opening) (l : ℕ) (m : given .revision ≤ top
 
   opened : Opened (openStep sized given l)
   unfolding openStep opening long
-  opened = row Opened unopened (λ why e. never (sym e)) (openBars sized l) (λ x e. (good-opening given l m (ltb-false _ _ (x .1 .0)), refl))
+  opened = row Opened unopened (λ why e. never (sym e)) (openBars sized l) (λ f e. (good-opening given l m (ltb-false _ _ (f TooLong)), refl))
 
 -- "In such a chain from an opening that is not refused, the log aside and every area of the right size"; the revision is a u64
 module _ (sized : Bool) (given : Opening) (l : ℕ) (m : given .revision ≤ top) (o : successful (openStep sized given l .class) ≡ true) (ss : List Sent) where

@@ -10,6 +10,7 @@ use Rattle.record.specs.Classes.{successful}
 use Rattle.record.specs.Answers.{Told, Said, saidOf}
 use Rattle.record.specs.Given.Effect.{works}
 use Rattle.record.specs.declared.Record.{Record}
+use Rattle.record.specs.declared.Refusal.the-variants.{NotReady}
 use Rattle.wholeness.specs.Whole.{complete}
 use Rattle.step_ends.specs.Ending.{commitBars, commitOwn}
 use Rattle.calls.specs.Calls.{Report, Call, step}
@@ -35,7 +36,7 @@ Unperformed x = successful (x .class) ≡ false
 module _ (r : Record) (v : r .restoring ≡ true) where
   own-shut : Unperformed (own r commit)
   unfolding own commitOwn complete
-  own-shut = row Unperformed r (λ why. refl) (commitBars r) (λ x. clash _ v (not-true _ (both (not-false _ (neither (x .1 .0) .0)) .0)))
+  own-shut = row Unperformed r (λ why. refl) (commitBars r) (λ f. clash _ v (not-true _ (both (not-false _ (neither (f NotReady) .0)) .0)))
 
   sent-shut : (s : Sent) → s .call ≡ commit → Unperformed (answered r s)
   sent-shut s e = sent-answers Unperformed r (λ why. refl) s (λ w. rw e own-shut)

@@ -1,4 +1,4 @@
--- Document 01: "Numbers 1 to 13 are refusals, each given exactly when its line or step says". For the opening and every call on a
+-- Document 01, of refusals: "each given exactly when its line or step says". For the opening and every call on a
 -- record: the answer of number n is given exactly by its row, exactly one row is given, and no other number is answered. Assumes nothing.
 use Prim.Native.Nat.{ℕ}
 use mathlib.Core.Path.{_≡_, refl, ap}

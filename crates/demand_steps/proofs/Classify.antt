@@ -17,8 +17,9 @@ use Rattle.record.specs.declared.Outcome.{Outcome}
 use Rattle.record.specs.declared.Outcome.the-variants as O
 use Rattle.record.specs.declared.Answer.the-variants.{Finished}
 use Rattle.record.specs.declared.Refusal.{Refusal}
+use Rattle.record.specs.declared.Refusal.the-variants.{Pending, Idle, Capacity, TooLong, TooMany, Stale}
 use Rattle.wholeness.specs.Gates.{Bar, barring, longSnapshot}
-use Rattle.wholeness.proofs.Passing.{Clear}
+use Rattle.wholeness.proofs.Passing.{Fails}
 use Rattle.step_begins.specs.Beginning.{beginBars, beginOwn, editBars, editOwn}
 use Rattle.step_asks.specs.Asks.{askStructureOwn, askUpdateOwn, askRollbackOwn}
 use Rattle.step_reports.specs.Done.{structureDone, updateDone, leaving, rollbackDone}
@@ -63,7 +64,7 @@ module _ (r : Record) where
   pub refuses : {c : Call} (why : Refusal) → Leaf r c (refuse why r)
   refuses {c} why = kept (unseen c why) (λ l. l)
 
-  barred : {c : Call} (bs : List Bar) {done : Told} → (Clear bs → Leaf r c done) → Leaf r c (barring bs r done)
+  barred : {c : Call} (bs : List Bar) {done : Told} → (Fails bs → Leaf r c done) → Leaf r c (barring bs r done)
   barred {c} = row (Leaf r c) r refuses
 
   split : {c : Call} {x y : Told} (b : Bool) → (b ≡ true → Leaf r c x) → (b ≡ false → Leaf r c y) → Leaf r c (pick b x y)
@@ -79,7 +80,8 @@ module _ (r : Record) where
 
   pub classify : (c : Call) → Leaf r c (own r c)
   unfolding own beginOwn editOwn askStructureOwn askUpdateOwn askRollbackOwn reportStructureOwn reportUpdateOwn reportRollbackOwn commitOwn recoverOwn recoverRetainedOwn refreshOwn structureDone updateDone rollbackDone adopting leaving sees
-  classify (begin structural b) = barred (beginBars r b) (λ x. began (x .0) (eqb-ne _ _ (x .1 .0)) (stores _ _ (x .1 .1 .0)) (ltb-false _ _ (x .1 .1 .1 .0)))
+  classify (begin structural b) =
+      barred (beginBars r b) (λ f. began (f Pending) (eqb-ne _ _ (f Capacity)) (stores _ _ (f TooLong)) (ltb-false _ _ (f TooMany)))
   classify (ask structure) =
       split _ (λ e. refuses _) (λ e₁. split _ (λ e. kept finished-unseen (λ l. l)) (λ e₂. split _ (λ e. refuses _) (λ e₃. structureAsked (open-tests _ e₁ e₂))))
   classify (ask update) =
@@ -91,19 +93,21 @@ module _ (r : Record) where
       split _ (λ e. rollbackEnded (leb-true _ _ e)) (λ e₁. split _ (λ e. refuses _) (λ e₂.
       split _ (λ e. turnedEmpty (leb-false _ _ e₁) (eqb-true _ _ e)) (λ e₃. turnedAsked (leb-false _ _ e₁) (eqb-ne _ _ e₃))))
   classify (report (structured c o) t x) =
-      barred (reportStructureBars r t c o) (λ y. let f = stores c o (y .1 .0) in let l = not-false _ (y .0) in outcomes f (each (Leaf r _) _ (went refl l f) (went refl l f)) x)
+      barred (reportStructureBars r t c o) (λ f. let s = stores c o (f TooLong) in let l = not-false _ (f Stale) in
+      outcomes s (each (Leaf r _) _ (went refl l s) (went refl l s)) x)
   classify (report updated t x) =
-      barred (reportUpdateBars r t) (λ y. let l = not-false _ (y .0) in
+      barred (reportUpdateBars r t) (λ f. let l = not-false _ (f Stale) in
       outcomes (λ k. k) (split _ (λ h. updateTaken refl l (last (eqb-true _ _ h))) (λ h. updateTaken refl l (more (eqb-ne _ _ h)))) x)
   classify (report rolledBack t x) =
-      barred (reportRollbackBars r t) (λ y. let l = not-false _ (y .0) in
+      barred (reportRollbackBars r t) (λ f. let l = not-false _ (f Stale) in
       outcomes (λ k. k) (split _ (λ h. undoTaken refl l (last (eqb-true _ _ h))) (λ h. undoTaken refl l (more (eqb-ne _ _ h)))) x)
-  classify (edit c o) = barred (editBars r c o) (λ x. kept (λ w. refl) (stores c o (x .1 .0)))
-  classify commit = barred (commitBars r) (λ x. committed (not-false _ (x .0)))
-  classify (recover n) = barred (recoverBars r (longSnapshot n [])) (λ x. recovered (short n (x .1 .1 .0)))
-  classify recoverRetained = barred (recoverBars r []) (λ x. restored)
+  classify (edit c o) = barred (editBars r c o) (λ f. kept (λ w. refl) (stores c o (f TooLong)))
+  classify commit = barred (commitBars r) (λ f. committed (not-false _ (f Idle)))
+  classify (recover n) = barred (recoverBars r (longSnapshot n [])) (λ f. recovered (short n (f TooLong)))
+  classify recoverRetained = barred (recoverBars r []) (λ f. restored)
   classify (refresh n) =
-      barred (refreshBars r n) (λ x. kept (λ w. refl) (λ l. record { accepted = short n (x .1 .0); candidate = l .candidate; recovery = l .recovery }))
+      barred (refreshBars r n) (λ f. kept (λ w. refl) (λ l.
+      record { accepted = short n (f TooLong); candidate = l .candidate; recovery = l .recovery }))
   classify (stamp domain) = split _ (λ e. refuses _) (λ e. kept (λ w. refl) (λ l. l))
   classify (check domain s) = split _ (λ e. kept (λ w. refl) (λ l. l)) (λ e. kept (λ w. refl) (λ l. l))
 

@@ -14,7 +14,7 @@ use Rattle.wholeness.specs.Whole.{whole}
 use Rattle.wholeness.specs.Gates.{gateOf, gated, Bar, barring}
 use Rattle.wholeness.specs.declared.Gate.{Gate}
 use Rattle.wholeness.specs.declared.Gate.the-variants.{Open, Shut}
-use Rattle.wholeness.proofs.Passing.{passed, Clear}
+use Rattle.wholeness.proofs.Passing.{passed, Clear, Fails, fails}
 use Rattle.step_begins.specs.Beginning.{beginOwn, editOwn}
 use Rattle.step_asks.specs.Asks.{askStructureOwn, askUpdateOwn, askRollbackOwn}
 use Rattle.step_reports.specs.Reports.{reportStructureOwn, reportUpdateOwn, reportRollbackOwn}
@@ -87,10 +87,13 @@ module _ (r : Record) where
   damaged-step c h = step-is (behind true true c) ∙ rw h
 
 module _ (P : Told → Type 0) (r : Record) (refuses : (why : Refusal) → P (refuse why r)) where
-  -- a call's own refusals in a row, and what is done where none is given
-  pub row : (bs : List Bar) {done : Told} → (Clear bs → P done) → P (barring bs r done)
-  row [] f = f refl
-  row (b ∷ bs) f = picked P (b .test) (λ e. refuses (b .why)) (λ e. row bs (λ x. f (e, x)))
+  -- a call's own refusals in a row, and what is done where none is given: where the test of each, by its name, fails
+  in-row : (bs : List Bar) {done : Told} → (Clear bs → P done) → P (barring bs r done)
+  in-row [] f = f refl
+  in-row (b ∷ bs) f = picked P (b .test) (λ e. refuses (b .why)) (λ e. in-row bs (λ x. f (e, x)))
+
+  pub row : (bs : List Bar) {done : Told} → (Fails bs → P done) → P (barring bs r done)
+  row bs f = in-row bs (λ x. f (fails bs x))
 
   at-gate : {done : Told} (g : Gate) → (g ≡ Open → P done) → P (gated g r done)
   unfolding gated

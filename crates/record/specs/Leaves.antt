@@ -13,6 +13,6 @@ pub record Leaves : Type 0 where
 abbrev pub leaves : Told → List (List ℕ) → Leaves
 leaves t l = record { told = t; lent = l }
 
--- "Numbers 1 to 13 are refusals ..; then nothing changes": what was lent stays, and else is what the step moves it to
+-- a refusal: "then nothing changes": what was lent stays, and else is what the step moves it to
 abbrev pub moving : Told → List (List ℕ) → List (List ℕ) → Leaves
 moving t lent moved = leaves t (pick (refused (t .class)) lent moved)

@@ -11,11 +11,12 @@ use Rattle.record.specs.Live.{isLive, rollback}
 use Rattle.record.specs.Answers.{Told}
 use Rattle.record.specs.Given.{Effect}
 use Rattle.record.specs.declared.Record.{Record}
+use Rattle.record.specs.declared.Refusal.the-variants.{Stale}
 use Rattle.wholeness.specs.Gates.{gateOf, Bar, through}
 use Rattle.wholeness.specs.declared.Gate.{Gate}
 use Rattle.wholeness.specs.declared.Gate.the-variants.{Open}
 use Rattle.wholeness.proofs.Facts.{Parts, behind, counts-of, forward-small, back-small, live-rollback, restoring-all}
-use Rattle.wholeness.proofs.Passing.{Clear, clear}
+use Rattle.wholeness.proofs.Passing.{Clear, clear, fails}
 use Rattle.step_reports.specs.Reports.{reported, reportRollbackBars}
 
 holds : {b : Bool} → not b ≡ false → b ≡ true
@@ -42,8 +43,9 @@ module _ {g : Gate} (sized sound : Bool) (r : Record) (bs : List Bar) (e : g ≡
 pub rollback-room : {g : Gate} (sized sound : Bool) (r : Record) (ticket : ℕ) → g ≡ through (gateOf sized sound r) (reportRollbackBars r ticket)
     → g ≡ Open → (0 < r .entries) × (0 < r .attempted)
 rollback-room sized sound r ticket e h =
-    let t = tested sized sound r (reportRollbackBars r ticket) e h in
-    let l : isLive rollback ticket (r .live) ≡ true = holds (passes sized sound r (reportRollbackBars r ticket) e h .1 .0) in
+    let bs = reportRollbackBars r ticket in
+    let t = tested sized sound r bs e h in
+    let l : isLive rollback ticket (r .live) ≡ true = holds (fails bs (passes sized sound r bs e h .1) Stale) in
     let b = live-rollback _ ticket _ _ _ _ _ _ (t .live) l in
     let k = restoring-all _ _ _ _ _ (t .restoring) (b .0) in
     (b .1, omega arith)

@@ -7,6 +7,7 @@ use Rattle.choice.specs.Pick.{pick, _and_}
 use Rattle.choice.proofs.Tests.{both, test}
 use Rattle.wholeness.specs.Whole.{whole}
 use Rattle.record.specs.Answers.{Told, refuse}
+use Rattle.record.specs.Classes.{is}
 use mathlib.Core.List.{List, [], _∷_}
 use Rattle.wholeness.specs.Gates.{gateOf, gated, Bar, barring, barred, through}
 use Rattle.record.specs.declared.Record.{Record}
@@ -81,6 +82,26 @@ module _ {g : Gate} (d : Gate) (bs : List Bar) (e : g ≡ through d bs) where
 abbrev pub Clear : List Bar → Type 0
 Clear [] = true ≡ true
 Clear (b ∷ bs) = (b .test ≡ false) × Clear bs
+
+-- so that the test of each refusal, found by its name in the row, fails: a refusal that the row does not have is never given
+abbrev at : Bool → Bool → Bool → Bool
+at true a b = a
+at false a b = b
+
+abbrev testOf : Refusal → List Bar → Bool
+testOf why [] = false
+testOf why (b ∷ bs) = at (is why (b .why)) (b .test) (testOf why bs)
+
+abbrev pub Fails : List Bar → Type 0
+Fails bs = (why : Refusal) → testOf why bs ≡ false
+
+both-fail : (t : Bool) {a b : Bool} → a ≡ false → b ≡ false → at t a b ≡ false
+both-fail true p q = p
+both-fail false p q = q
+
+pub fails : (bs : List Bar) → Clear bs → Fails bs
+fails [] x why = refl
+fails (b ∷ bs) x why = both-fail (is why (b .why)) (x .0) (fails bs (x .1) why)
 
 shut-stays : (bs : List Bar) {why : Refusal} → through (Shut why) bs ≡ Shut why
 unfolding barred

@@ -2,7 +2,8 @@
 use mathlib.Core.Path.{refl, sym, _∙_}
 use native.Mathlib.Omega.{arith}
 use borrow.Author.Tests.{not-false}
-use Rattle.wholeness.proofs.Passing.{barred-out, let-in, clear}
+use Rattle.record.specs.declared.Refusal.the-variants.{Idle}
+use Rattle.wholeness.proofs.Passing.{barred-out, let-in, clear, fails}
 use Rattle.wholeness.proofs.Facts.{behind, staged-room}
 use Rattle.step_ends.specs.Ending.{commitBars, commitOwn}
 use borrow.Author.Needs.{needs}
@@ -19,8 +20,9 @@ returns c =
 add-t8 : tie.Need-add-t8
 add-t8 c =
     let k = c .before .before .before .before in
-    let t = clear _ (commitBars (k .before .args .r)) (sym (k .commit-gate .ensures) ∙ c .before .before .enum-told .given .1) in
-    omega (arith, staged-room _ _ _ _ _ (behind _ _ _ refl (t .0) .staging) (not-false _ (t .1 .0)))
+    let bs = commitBars (k .before .args .r) in
+    let t = clear _ bs (sym (k .commit-gate .ensures) ∙ c .before .before .enum-told .given .1) in
+    omega (arith, staged-room _ _ _ _ _ (behind _ _ _ refl (t .0) .staging) (not-false _ (fails bs (t .1) Idle)))
 
 returns-2 : tie.Need-returns-2
 unfolding commitOwn

@@ -5,7 +5,8 @@ use Rattle.choice.proofs.Tests.{tests}
 use Rattle.record.specs.Answers.{answer}
 use Rattle.record.specs.declared.Answer.the-variants.{Done}
 use Rattle.record.specs.declared.Was.the-variants.{Nothing}
-use Rattle.wholeness.proofs.Passing.{barred-out, let-in, clear}
+use Rattle.record.specs.declared.Refusal.the-variants.{TooMany}
+use Rattle.wholeness.proofs.Passing.{barred-out, let-in, clear, fails}
 use Rattle.step_begins.specs.Beginning.{begun, beginBars, beginOwn}
 use borrow.Author.Needs.{needs}
 use Rattle.step_begins.proofs.begins.begin.Statement.{statement}
@@ -22,7 +23,8 @@ begun-requires : tie.Need-begun-requires
 begun-requires c κs =
     let k = c .before .before .before in
     let a = k .before .args in
-    let t = clear _ (beginBars (a .r) (a .given)) (sym (k .begin-gate .ensures) ∙ c .before .enum-told .given .1) .1 .1 .1 .1 .0 in
+    let bs = beginBars (a .r) (a .given) in
+    let t = fails bs (clear _ bs (sym (k .begin-gate .ensures) ∙ c .before .enum-told .given .1) .1) TooMany in
     omega tests
 
 returns-2 : tie.Need-returns-2
