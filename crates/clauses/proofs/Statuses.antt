@@ -103,7 +103,6 @@ pub cancelled-sound : (group mark : ℕ) → bytesSound group mark ≡ true → 
 cancelled-sound group mark e l = let x = cancelled-alone mark in sound-after group mark _ e l (x .linked) (x .finished)
 
 -- initializing is not always refused: a live and settled group, linked
-pub initialize-possible : marksOf (0 ∷ (groupLive + groupSettled) ∷ []) (0 ∷ markLinked ∷ []) 1 Initialize
-    ≡ leavesMarks (said performed []) (0 ∷ (markLinked + markInitialized) ∷ [])
+pub initialize-possible : marksOf (0 ∷ 3 ∷ []) (0 ∷ 1 ∷ []) 1 Initialize ≡ leavesMarks (said performed []) (0 ∷ 5 ∷ [])
 unfolding entryOf bytesSound marking put with has pick _and_ _or_
 initialize-possible = refl

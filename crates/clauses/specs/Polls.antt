@@ -58,7 +58,7 @@ pub record RollbackClauses (r : Record) (t : Told) : Type 0 where
 
 -- C80, C81, C239, C240: a report by its outcome, of the kind of ticket that it takes: `tells` gives what each outcome is told, and s is the
 -- record with the ticket spent and the payloads stored
-pub record ReportAnswers (kind ticket : ℕ) (r s : Record) (tells : Outcome → Told) : Type 0 where
-  pub c80 : isLive kind ticket (r .live) ≡ true → tells O.Waiting ≡ answer Waiting s
-  pub c81 : (code : ℕ) → isLive kind ticket (r .live) ≡ true → tells (O.Failed code) ≡ answer (Failed code) s
-  pub c240 : (x : Outcome) → isLive kind ticket (r .live) ≡ false → tells x ≡ refuse Stale r
+pub record ReportAnswers (work ticket : ℕ) (r s : Record) (tells : Outcome → Told) : Type 0 where
+  pub c80 : isLive work ticket (r .live) ≡ true → tells O.Waiting ≡ answer Waiting s
+  pub c81 : (code : ℕ) → isLive work ticket (r .live) ≡ true → tells (O.Failed code) ≡ answer (Failed code) s
+  pub c240 : (x : Outcome) → isLive work ticket (r .live) ≡ false → tells x ≡ refuse Stale r

@@ -9,3 +9,4 @@ pub mod Written
 pub mod Logged
 pub mod Recorder
 pub mod Marks
+pub mod Numbers

@@ -2,3 +2,4 @@ pub mod Rows
 pub mod Refusals
 pub mod Through
 pub mod Marks
+pub mod Numbers

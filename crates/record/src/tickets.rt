@@ -36,7 +36,7 @@ impl Live {
         }
     }
 
-    // Of the kinds 1 to 3, whether the ticket is the live one of that kind. Of the kind 0, whether none is live and the ticket is 0.
+    // Of the works 1 to 3, whether the ticket is the live one for it. Of the work 0, whether none is live and the ticket is 0.
     pub fn is(self, of: u8, ticket: u64) -> bool
         ensures { λ b. ⌜ b ≡ isLive of ticket self ⌝ }
     {
