@@ -11,7 +11,7 @@ use Rattle.areas.specs.Areas.{areaSize, long}
 use Rattle.record.specs.{Classes.Class, Classes.Class.refusal, Answers.Told, Answers.answer, Fields.top, declared.Record.Record, declared.Answer.the-variants.Done}
 use Rattle.record.specs.{declared.Was.the-variants.Three, declared.Refusal.the-variants.Idle, declared.Refusal.the-variants.NotReady}
 use Rattle.wholeness.specs.{Whole.whole, Whole.complete, Gates.Bar, Gates.barring, Gates.longSnapshot}
-use Rattle.wholeness.proofs.Passing.{Clear, fails}
+use Rattle.gates.proofs.Passing.{Clear, fails}
 use Rattle.record.specs.Given.{opening}
 use Rattle.step_ends.specs.Ending.{afterCommit, commitBars, commitOwn, unrestored, recoverBars, recoveredTo, recoverOwn, recoverRetainedOwn}
 use Rattle.calls.specs.{Calls.Call, Calls.step, Calls.Call.commit, Calls.Call.recover, Calls.Call.recoverRetained}

@@ -10,7 +10,7 @@ use Rattle.phases.specs.Phases.{updates, adopt, undo, recoverRemove}
 use Rattle.areas.specs.Areas.{areaSize}
 use Rattle.record.specs.{Classes.Class.stepping, Classes.StepAnswer.finished, Answers.Told, Fields.top, Fields.adopting, Live.isLive, declared.Record.Record}
 use Rattle.record.specs.{declared.Outcome.Outcome, declared.Outcome.the-variants.Done}
-use Rattle.record.specs.Live as Tickets
+use Rattle.tickets.specs.Live as Tickets
 use Rattle.wholeness.specs.Whole.{whole}
 use Rattle.step_asks.specs.Asks.{turned, askStructureOwn, askUpdateOwn, askRollbackOwn}
 use Rattle.step_reports.specs.Done.{leaving, structureDone, updateDone, rollbackDone}

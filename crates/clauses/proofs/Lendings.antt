@@ -9,7 +9,7 @@ use Rattle.areas.specs.Areas.{areaSize, sized, copied}
 use Rattle.areas.proofs.Laws.{copied-fits}
 use Rattle.batch.specs.Batch.{tableWords, tableSized, pairsIn}
 use Rattle.record.specs.{Answers.Told, Answers.refuse, declared.Record.Record, declared.Refusal.the-variants.BadArea}
-use Rattle.wholeness.specs.Gates.{gateOf, gated}
+use Rattle.gates.specs.Gates.{gateOf, gated}
 use Rattle.calls.specs.{Calls.Call, Calls.stepOf, Calls.AnyCall.calls, Calls.Work.structure, Calls.Work.update, Calls.Work.rollback, Lending.Stored.structured}
 use Rattle.calls.specs.{Lending.Stored.updated, Lending.Stored.rolledBack, Lending.Lending, Lending.callOf, Lending.fits}
 use Rattle.calls.specs.Lending.Lending.{openAt, begin, ask, report, edit, commit, recover, recoverRetained, refresh, stamp, check}

@@ -8,7 +8,7 @@ use Rattle.choice.specs.Pick.{pick, _or_}
 use Rattle.choice.proofs.Tests.{either, neither}
 use Rattle.phases.specs.{Phases.hasSuccessor, Phases.successor, Phases.boundary, declared.Next.the-variants.To}
 use Rattle.record.specs.{Fields.top, Fields.spent, Fields.withPlace, Live.isLive, declared.Record.Record, declared.Live.Live}
-use Rattle.record.specs.Live as Tickets
+use Rattle.tickets.specs.Live as Tickets
 use Rattle.wholeness.specs.Whole.{whole}
 use Rattle.step_reports.specs.{Done.advanced, Reports.storing}
 use Rattle.demand_steps.proofs.{Leaf.Apart, Facts.Calm, Facts.tests, Facts.byCase, Facts.Calm.on, Facts.Calm.off, Reading.whole-facts, Reading.apart-of, Testing.ranges}

@@ -8,9 +8,9 @@ use Rattle.choice.proofs.{Picks.no, Tests.both}
 use Rattle.areas.specs.Areas.{areaSize, sized, copied, long}
 use Rattle.record.specs.{Classes.Class.performed, Classes.refused, Answers.Told, Answers.answer, Leaves.moving, Given.at, Fields.top, declared.Opening.Opening}
 use Rattle.record.specs.{declared.Answer.the-variants.Done, declared.Was.the-variants.Nothing}
-use Rattle.record.specs.declared.Refusal.the-variants.{BadArea, TooLong}
+use Rattle.answers.specs.declared.Refusal.the-variants.{BadArea, TooLong}
 use Rattle.wholeness.specs.Whole.{whole}
-use Rattle.wholeness.proofs.Passing.{fails}
+use Rattle.gates.proofs.Passing.{fails}
 use Rattle.step_begins.specs.Opening.{opening, openBars, openStep}
 use Rattle.log.specs.Log.{headWords, blank}
 use Rattle.events.proofs.Soundness.{blank-is}

@@ -8,9 +8,9 @@ use Rattle.choice.specs.Pick.{_or_}
 use Rattle.choice.proofs.Tests.{never, both, join}
 use Rattle.areas.specs.Areas.{long}
 use Rattle.record.specs.{Classes.refused, Answers.answer, Fields.top, Fields.withLengths, declared.Record.Record, declared.Answer.the-variants.Done, declared.Was.the-variants.One}
-use Rattle.record.specs.declared.Refusal.the-variants.{Pending, TooLong}
+use Rattle.answers.specs.declared.Refusal.the-variants.{Pending, TooLong}
 use Rattle.wholeness.specs.Whole.{whole}
-use Rattle.wholeness.proofs.Passing.{fails}
+use Rattle.gates.proofs.Passing.{fails}
 use Rattle.step_ends.specs.Ending.{refreshBars, refreshOwn}
 use Rattle.step_stamps.specs.{Stamping.passes, declared.SaveStamp.SaveStamp}
 use Rattle.calls.specs.{Calls.step, Calls.Call.refresh, Calls.Call.stamp, Calls.Call.check}

@@ -7,7 +7,7 @@ use Rattle.choice.proofs.Picks.{yes, no}
 use Rattle.areas.specs.Areas.{areaSize}
 use Rattle.record.specs.{Classes.refused, Classes.Class.refusal, Answers.Told, Given.effectOf, Fields.spent, declared.Record.Record, declared.Outcome.Outcome}
 use Rattle.record.specs.{declared.Refusal.the-variants.Damaged}
-use Rattle.record.specs.Live as Tickets
+use Rattle.tickets.specs.Live as Tickets
 use Rattle.record.specs.declared.Outcome.the-variants as O
 use Rattle.wholeness.specs.{Whole.whole, Gates.barring, Gates.longPayloads}
 use Rattle.step_reports.specs.Done.{structureDone, updateDone, rollbackDone}

@@ -9,11 +9,11 @@ use Rattle.choice.proofs.{Picks.picked, Tests.never, Tests.both, Tests.neither,
 use Rattle.areas.specs.Areas.{areaSize, long}
 use Rattle.record.specs.{Classes.Class.performed, Classes.Class.refusal, Classes.Class.stepping, Classes.StepAnswer.finished, Answers.Told, Answers.told, Answers.said}
 use Rattle.record.specs.{Answers.refuse, Given.effectOf, Fields.top, declared.Record.Record, declared.Outcome.Outcome, declared.Refusal.Refusal}
-use Rattle.record.specs.Classes.{Class, StepAnswer, refusalNumber, numberOf, refused, takes, taken}
+use Rattle.answers.specs.Classes.{Class, StepAnswer, refusalNumber, numberOf, refused, takes, taken}
 use Rattle.record.specs.declared.Outcome.the-variants as O
-use Rattle.record.specs.declared.Refusal.the-variants.{NotReady, Recovering}
+use Rattle.answers.specs.declared.Refusal.the-variants.{NotReady, Recovering}
 use Rattle.wholeness.specs.{Whole.whole, Gates.Bar, Gates.barring}
-use Rattle.wholeness.proofs.Passing.{Clear}
+use Rattle.gates.proofs.Passing.{Clear}
 use Rattle.step_reports.specs.Reports.{reported}
 use Rattle.calls.specs.Calls.{Call, step}
 use Rattle.demand_steps.proofs.{Own.own, Own.whole-step, Facts.Whole, Classify.leaf, Preserve.preserve, Reading.whole-facts, Wholeness.whole-test}

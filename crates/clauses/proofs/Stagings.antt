@@ -6,9 +6,9 @@ use Rattle.choice.specs.Pick.{pick}
 use Rattle.choice.proofs.{Picks.yes, Picks.no, Tests.never, Tests.eqb-ne}
 use Rattle.record.specs.{Classes.Class, Classes.Class.refusal, Answers.Told, Answers.answer, Fields.top, Fields.withLengths, declared.Record.Record, declared.Beginning.Beginning}
 use Rattle.record.specs.{declared.Answer.the-variants.Done, declared.Was.the-variants.Nothing}
-use Rattle.record.specs.declared.Refusal.the-variants.{Pending, Idle, Capacity, TooLong, TooMany}
+use Rattle.answers.specs.declared.Refusal.the-variants.{Pending, Idle, Capacity, TooLong, TooMany}
 use Rattle.wholeness.specs.{Whole.whole, Gates.Bar}
-use Rattle.wholeness.proofs.Passing.{Clear, fails}
+use Rattle.gates.proofs.Passing.{Clear, fails}
 use Rattle.step_begins.specs.Beginning.{firstPhase, begun, beginBars, beginOwn, editBars, editOwn}
 use Rattle.calls.specs.{Calls.step, Calls.Call.begin, Calls.Call.edit}
 use Rattle.demand_steps.proofs.Own.{own}

@@ -6,7 +6,7 @@ use Rattle.choice.proofs.Tests.{test}
 use Rattle.phases.specs.{Phases.hasSuccessor, Phases.boundary, declared.Phase.Phase}
 use Rattle.record.specs.{Classes.Class, Classes.refused, Classes.Class.refusal, Classes.StepAnswer.finished, Answers.Told, Fields.top, Live.isLive, declared.Record.Record}
 use Rattle.record.specs.{declared.Outcome.Outcome, declared.Refusal.the-variants.NotReady}
-use Rattle.record.specs.Live as Tickets
+use Rattle.tickets.specs.Live as Tickets
 use Rattle.wholeness.specs.Whole.{whole}
 use Rattle.step_asks.specs.Asks.{askStructureOwn}
 use Rattle.step_reports.specs.{Done.structureDone, Reports.reportStructureBars, Reports.reportStructureOwn}

@@ -9,12 +9,12 @@ use lib.Dec.{eqb}
 use Rattle.choice.specs.Pick.{pick, _or_}
 use Rattle.areas.specs.Areas.{areaSize}
 use Rattle.phases.specs.Phases.{none, ready, recovered}
-use Rattle.record.specs.Classes.{refused}
-use Rattle.record.specs.Classes.Class.{performed, refusal}
+use Rattle.answers.specs.Classes.{refused}
+use Rattle.answers.specs.Classes.Class.{performed, refusal}
 use Rattle.record.specs.Answers.{Told}
 use Rattle.record.specs.Given.{standing}
 use Rattle.record.specs.declared.Record.{Record}
-use Rattle.record.specs.declared.Refusal.the-variants.{Pending, Idle, NotReady}
+use Rattle.answers.specs.declared.Refusal.the-variants.{Pending, Idle, NotReady}
 use Rattle.wholeness.specs.Whole.{whole, complete}
 use Rattle.step_begins.specs.Opening.{opening}
 use Rattle.step_ends.specs.Ending.{afterCommit}

@@ -10,14 +10,14 @@ use Rattle.choice.specs.Pick.{_or_}
 use Rattle.phases.specs.Phases.{none, remove, updates, ready, undo, recoverRemove, recovered, hasSuccessor, boundary}
 use Rattle.areas.specs.Areas.{areaSize, long}
 use Rattle.batch.specs.Batch.{limit}
-use Rattle.record.specs.Classes.{Class, StepAnswer, refused}
-use Rattle.record.specs.Classes.Class.{performed, refusal, stepping}
+use Rattle.answers.specs.Classes.{Class, StepAnswer, refused}
+use Rattle.answers.specs.Classes.Class.{performed, refusal, stepping}
 use Rattle.record.specs.Answers.{Told}
 use Rattle.record.specs.Leaves.{Leaves}
 use Rattle.record.specs.Fields.{top}
 use Rattle.record.specs.declared.Record.{Record}
 use Rattle.record.specs.declared.Beginning.{Beginning}
-use Rattle.record.specs.declared.Refusal.the-variants as why
+use Rattle.answers.specs.declared.Refusal.the-variants as why
 use Rattle.clauses.specs.Keeping.{SameStaged}
 use Rattle.clauses.specs.Structure.{Advances}
 use Rattle.clauses.specs.Staging.{CanBegin}

@@ -1,12 +1,12 @@
 -- What clauses of several functions say alike: which refusals they gain, wholeness, and what a call keeps. Assumes nothing.
 use mathlib.Core.Path.{_≡_}
 use mathlib.Core.Bool.{Bool, true, false, not, _||_}
-use Rattle.record.specs.Classes.{Class, is}
-use Rattle.record.specs.Classes.Class.{performed, refusal, stepping}
+use Rattle.answers.specs.Classes.{Class, is}
+use Rattle.answers.specs.Classes.Class.{performed, refusal, stepping}
 use Rattle.record.specs.Answers.{Told}
 use Rattle.record.specs.declared.Record.{Record}
-use Rattle.record.specs.declared.Refusal.{Refusal}
-use Rattle.record.specs.declared.Refusal.the-variants.{Pending, Idle, Capacity, NotReady, Recovering, NoStatus}
+use Rattle.answers.specs.declared.Refusal.{Refusal}
+use Rattle.answers.specs.declared.Refusal.the-variants.{Pending, Idle, Capacity, NotReady, Recovering, NoStatus}
 use Rattle.wholeness.specs.Whole.{whole}
 
 -- "Iff clauses gain the refusals 6 to 12; the others hold where none of these is given."

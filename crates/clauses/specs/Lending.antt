@@ -6,11 +6,11 @@ use mathlib.Core.Bool.{Bool, true, false}
 use mathlib.Core.List.{List, []}
 use lib.ListN.{length, getD, take}
 use Rattle.batch.specs.Batch.{identityAt, payloadAt}
-use Rattle.record.specs.Classes.{refused}
+use Rattle.answers.specs.Classes.{refused}
 use Rattle.record.specs.Answers.{refuse}
 use Rattle.record.specs.Leaves.{Leaves, moving}
 use Rattle.record.specs.declared.Record.{Record}
-use Rattle.record.specs.declared.Refusal.the-variants.{BadArea}
+use Rattle.answers.specs.declared.Refusal.the-variants.{BadArea}
 use Rattle.calls.specs.Calls.{Call, stepOf, step}
 use Rattle.calls.specs.Lending.{Lending, callOf, fits, lent, moved}
 

@@ -7,16 +7,16 @@ use mathlib.Core.Logic.{_≢_}
 use lib.Dec.{eqb}
 use Rattle.choice.specs.Pick.{_or_}
 use Rattle.phases.specs.Phases.{none, updates}
-use Rattle.record.specs.Classes.{Class, is, takes}
-use Rattle.record.specs.Classes.Class.{performed, refusal, stepping}
-use Rattle.record.specs.Classes.StepAnswer.{more, finished}
+use Rattle.answers.specs.Classes.{Class, is, takes}
+use Rattle.answers.specs.Classes.Class.{performed, refusal, stepping}
+use Rattle.answers.specs.Classes.StepAnswer.{more, finished}
 use Rattle.record.specs.Answers.{Told, answer, refuse}
-use Rattle.record.specs.Live.{isLive}
+use Rattle.tickets.specs.Live.{isLive}
 use Rattle.record.specs.declared.Record.{Record}
 use Rattle.record.specs.declared.Outcome.{Outcome}
 use Rattle.record.specs.declared.Outcome.the-variants as O
-use Rattle.record.specs.declared.Answer.the-variants.{Waiting, Failed}
-use Rattle.record.specs.declared.Refusal.the-variants.{NotReady, Recovering, Stale}
+use Rattle.answers.specs.declared.Answer.the-variants.{Waiting, Failed}
+use Rattle.answers.specs.declared.Refusal.the-variants.{NotReady, Recovering, Stale}
 use Rattle.wholeness.specs.Whole.{complete}
 use Rattle.clauses.specs.Keeping.{gained, SameStaged, Framed}
 

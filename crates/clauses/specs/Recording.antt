@@ -6,13 +6,13 @@ use mathlib.Core.List.{List, [], _∷_}
 use mathlib.Core.Logic.{_≢_}
 use lib.ListN.{getD, drop}
 use Rattle.choice.specs.Pick.{_and_}
-use Rattle.record.specs.Classes.{Class, refused}
-use Rattle.record.specs.Classes.Class.{refusal}
+use Rattle.answers.specs.Classes.{Class, refused}
+use Rattle.answers.specs.Classes.Class.{refusal}
 use Rattle.record.specs.Answers.{refuse}
 use Rattle.record.specs.Leaves.{Leaves, leaves}
 use Rattle.record.specs.declared.Record.{Record}
 use Rattle.record.specs.declared.Opening.{Opening}
-use Rattle.record.specs.declared.Refusal.the-variants.{BadArea, Damaged, LogFull}
+use Rattle.answers.specs.declared.Refusal.the-variants.{BadArea, Damaged, LogFull}
 use Rattle.wholeness.specs.Whole.{whole}
 use Rattle.log.specs.Log.{count, headWords, full, sound, event}
 use Rattle.calls.specs.Calls.{Call}

@@ -7,14 +7,14 @@ use mathlib.Core.Logic.{_≢_, _↔_}
 use Rattle.choice.specs.Pick.{pick}
 use Rattle.areas.specs.Areas.{areaSize}
 use Rattle.batch.specs.Batch.{limit}
-use Rattle.record.specs.Classes.{refused}
-use Rattle.record.specs.Classes.Class.{performed, refusal}
+use Rattle.answers.specs.Classes.{refused}
+use Rattle.answers.specs.Classes.Class.{performed, refusal}
 use Rattle.record.specs.Answers.{Told}
 use Rattle.record.specs.Fields.{top, withLengths}
 use Rattle.record.specs.declared.Record.{Record}
 use Rattle.record.specs.declared.Opening.{Opening}
 use Rattle.record.specs.declared.Beginning.{Beginning}
-use Rattle.record.specs.declared.Refusal.the-variants.{Pending, Idle, Capacity}
+use Rattle.answers.specs.declared.Refusal.the-variants.{Pending, Idle, Capacity}
 use Rattle.wholeness.specs.Whole.{whole}
 use Rattle.step_begins.specs.Opening.{opening}
 use Rattle.step_begins.specs.Beginning.{firstPhase}

@@ -5,7 +5,7 @@ use mathlib.Core.Bool.{true, false}
 use mathlib.Core.List.{List}
 use mathlib.Core.Logic.{_≢_, _↔_}
 use lib.ListN.{length, getD}
-use Rattle.record.specs.Classes.Class.{performed}
+use Rattle.answers.specs.Classes.Class.{performed}
 use Rattle.status.specs.Status.{Marks, markLinked, markCancelled, markInitialized, markFinished, has, otherLengths, outside, bytesSound, allowed, next}
 use Rattle.status.specs.declared.StatusCall.{StatusCall}
 

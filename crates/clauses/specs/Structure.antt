@@ -6,13 +6,13 @@ use mathlib.Core.Bool.{true, false}
 use mathlib.Core.Logic.{_≢_}
 use Rattle.phases.specs.Phases.{none, adopt, hasSuccessor, successor, boundary}
 use Rattle.phases.specs.declared.Next.the-variants.{To}
-use Rattle.record.specs.Classes.{Class}
-use Rattle.record.specs.Classes.Class.{refusal}
-use Rattle.record.specs.Classes.StepAnswer.{finished}
+use Rattle.answers.specs.Classes.{Class}
+use Rattle.answers.specs.Classes.Class.{refusal}
+use Rattle.answers.specs.Classes.StepAnswer.{finished}
 use Rattle.record.specs.Answers.{Told}
 use Rattle.record.specs.declared.Record.{Record}
-use Rattle.record.specs.declared.Live.the-variants.{None}
-use Rattle.record.specs.declared.Refusal.the-variants.{NotReady}
+use Rattle.tickets.specs.declared.Live.the-variants.{None}
+use Rattle.answers.specs.declared.Refusal.the-variants.{NotReady}
 use Rattle.clauses.specs.Keeping.{SameBatch, Framed}
 use Rattle.clauses.specs.Polls.{unfinished}
 

@@ -9,7 +9,7 @@ use Rattle.phases.specs.declared.Next.{Next}
 use Rattle.phases.specs.declared.Next.the-variants.{To, Nowhere}
 use Rattle.record.specs.Fields.{top}
 use Rattle.record.specs.declared.Record.{Record}
-use Rattle.record.specs.declared.Live.the-variants.{None}
+use Rattle.tickets.specs.declared.Live.the-variants.{None}
 use Rattle.wholeness.specs.Whole.{countsFit, restoringFits}
 
 -- none, and the thirteen phases in upstream's order

@@ -9,14 +9,14 @@ use Rattle.choice.specs.Pick.{pick, _and_, _or_, _implies_}
 use Rattle.phases.specs.Phases.{hasSuccessor, successor, boundary}
 use Rattle.areas.specs.Areas.{long, sized, copied}
 use Rattle.batch.specs.Batch.{tableSized, paired, pairsIn, stored}
-use Rattle.record.specs.Classes.{successful, granted, refusalWritten}
+use Rattle.answers.specs.Classes.{successful, granted, refusalWritten}
 use Rattle.record.specs.Answers.{Told}
-use Rattle.record.specs.Live.{isLive}
+use Rattle.tickets.specs.Live.{isLive}
 use Rattle.record.specs.Given.{at}
 use Rattle.record.specs.Fields.{adopting}
 use Rattle.record.specs.declared.Record.{Record}
 use Rattle.wholeness.specs.Whole.{lengthsFit, countsFit, stagedFits, forwardFits, backFits, restoringFits, liveFits, whole, complete}
-use Rattle.wholeness.specs.Gates.{gateOf, gated}
+use Rattle.gates.specs.Gates.{gateOf, gated}
 use Rattle.step_begins.specs.Opening.{opening, openStep}
 use Rattle.step_begins.specs.Beginning.{firstPhase, begun, beginOwn, editOwn}
 use Rattle.step_asks.specs.Asks.{askStructureOwn, askUpdateOwn, askRollbackOwn, turned}

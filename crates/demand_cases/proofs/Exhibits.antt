@@ -3,12 +3,12 @@ use Prim.Native.Nat.{ℕ}
 use mathlib.Core.Path.{_≡_, refl}
 use mathlib.Core.Bool.{Bool, true, false, _&&_}
 use mathlib.Core.List.{List, [], _∷_, map}
-use Rattle.record.specs.Live.{workOf}
+use Rattle.tickets.specs.Live.{workOf}
 use Rattle.record.specs.Given.{at}
 use Rattle.record.specs.Fields.{withTicket, withPlace, withBatch, withStaged}
 use Rattle.record.specs.declared.Record.{Record}
-use Rattle.record.specs.declared.Live.{Live}
-use Rattle.record.specs.declared.Live.the-variants.{None, Structure, Update, Rollback}
+use Rattle.tickets.specs.declared.Live.{Live}
+use Rattle.tickets.specs.declared.Live.the-variants.{None, Structure, Update, Rollback}
 use Rattle.wholeness.specs.Whole.{whole}
 use Rattle.step_begins.specs.Opening.{opening}
 use Rattle.demand_cases.proofs.Computing.{called}

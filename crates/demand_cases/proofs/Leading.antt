@@ -7,8 +7,9 @@ use mathlib.Core.Bool.{true, false}
 use mathlib.Core.List.{List, [], _∷_, _++_, map}
 use native.Mathlib.Omega.{arith}
 use Rattle.choice.specs.Pick.{pick}
-use Rattle.record.specs.Classes.Class.{performed}
-use Rattle.record.specs.Answers.{Said, said, saidOf}
+use Rattle.answers.specs.Classes.Class.{performed}
+use Rattle.answers.specs.Answers.{Said, said}
+use Rattle.record.specs.Answers.{saidOf}
 use Rattle.record.specs.Given.{at, beginning}
 use Rattle.record.specs.declared.Outcome.the-variants.{Waiting, Done}
 use Rattle.step_begins.specs.Opening.{opening}

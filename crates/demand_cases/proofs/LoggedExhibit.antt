@@ -8,12 +8,12 @@ use mathlib.Core.List.{List, [], _∷_, _++_, map}
 use lib.ListN.{replicate}
 use native.Mathlib.Omega.{arith}
 use Rattle.areas.specs.Areas.{areaSize}
-use Rattle.record.specs.Answers.{Said, says}
+use Rattle.answers.specs.Answers.{Said, says}
 use Rattle.record.specs.Given.{at, beginning}
 use Rattle.record.specs.Leaves.{Leaves}
 use Rattle.record.specs.declared.Outcome.the-variants.{Done}
-use Rattle.record.specs.declared.Answer.the-variants.{Refused, Ticket, Finished}
-use Rattle.record.specs.declared.Refusal.the-variants.{Pending, NotReady, LogFull}
+use Rattle.answers.specs.declared.Answer.the-variants.{Refused, Ticket, Finished}
+use Rattle.answers.specs.declared.Refusal.the-variants.{Pending, NotReady, LogFull}
 use Rattle.wholeness.specs.Whole.{whole}
 use Rattle.log.specs.Log.{logWidth, wordsOf, sound, blank}
 use Rattle.events.specs.Entries.{entry, entries, logOf}

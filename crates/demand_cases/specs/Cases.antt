@@ -5,13 +5,14 @@ use mathlib.Core.List.{List, [], _∷_, _++_}
 use lib.Dec.{eqb}
 use Rattle.phases.specs.Phases.{none, recoverRemove}
 use Rattle.record.specs.Fields.{top}
-use Rattle.record.specs.Answers.{Told, Said, says}
+use Rattle.answers.specs.Answers.{Said, says}
+use Rattle.record.specs.Answers.{Told}
 use Rattle.record.specs.Given.{at, beginning}
 use Rattle.record.specs.declared.Record.{Record}
 use Rattle.record.specs.declared.Outcome.the-variants as O
-use Rattle.record.specs.declared.Answer.the-variants.{Done, Refused, Ticket, Waiting, More, Finished}
-use Rattle.record.specs.declared.Was.the-variants.{Nothing, Three}
-use Rattle.record.specs.declared.Refusal.the-variants.{Capacity, NotReady, Recovering, Damaged, Stale}
+use Rattle.answers.specs.declared.Answer.the-variants.{Done, Refused, Ticket, Waiting, More, Finished}
+use Rattle.answers.specs.declared.Was.the-variants.{Nothing, Three}
+use Rattle.answers.specs.declared.Refusal.the-variants.{Capacity, NotReady, Recovering, Damaged, Stale}
 use Rattle.step_begins.specs.Opening.{opening, openStep}
 use Rattle.step_begins.specs.Beginning.{begun}
 use Rattle.step_stamps.specs.Stamping.{saysStamping, saysChecked}

@@ -7,8 +7,8 @@ use mathlib.Core.List.{List, [], _∷_, _++_}
 use native.Mathlib.Omega.{arith}
 use borrow.Author.Tests.{lt-ltb, le-ltb}
 use Rattle.choice.specs.Pick.{pick}
-use Rattle.record.specs.declared.Live.{Live}
-use Rattle.record.specs.declared.Live.the-variants.{None, Structure, Update, Rollback}
+use Rattle.tickets.specs.declared.Live.{Live}
+use Rattle.tickets.specs.declared.Live.the-variants.{None, Structure, Update, Rollback}
 use Rattle.demand_steps.specs.Watching.{Item}
 use Rattle.demand_steps.specs.Watching.Item.{settle, apply, undo}
 use Rattle.demand_chains.specs.Plans.{planAt, backAt, firsts}

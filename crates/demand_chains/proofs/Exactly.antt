@@ -8,10 +8,10 @@ use lib.Dec.{eqb, ltb}
 use lib.ListN.{length, length-append}
 use borrow.Author.Tests.{eq-eqb, ne-eqb, lt-ltb, le-ltb}
 use Rattle.choice.specs.Pick.{pick, _and_, _or_}
-use Rattle.record.specs.Classes.{successful}
+use Rattle.answers.specs.Classes.{successful}
 use Rattle.record.specs.Answers.{Told, refuse}
 use Rattle.record.specs.declared.Record.{Record}
-use Rattle.record.specs.declared.Refusal.the-variants.{Idle, NotReady}
+use Rattle.answers.specs.declared.Refusal.the-variants.{Idle, NotReady}
 use Rattle.wholeness.specs.Whole.{complete}
 use Rattle.step_ends.specs.Ending.{commitOwn, unrestored, recoverRetainedOwn}
 use Rattle.calls.specs.Calls.{step}

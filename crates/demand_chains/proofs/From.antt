@@ -8,8 +8,8 @@ use lib.Dec.{leb}
 use borrow.Author.Tests.{leb-true, leb-false}
 use Rattle.record.specs.Fields.{top}
 use Rattle.record.specs.declared.Record.{Record}
-use Rattle.record.specs.declared.Live.{Live}
-use Rattle.record.specs.declared.Live.the-variants.{None, Structure, Update, Rollback}
+use Rattle.tickets.specs.declared.Live.{Live}
+use Rattle.tickets.specs.declared.Live.the-variants.{None, Structure, Update, Rollback}
 use Rattle.wholeness.specs.Whole.{whole}
 use Rattle.demand_chains.specs.Sending.{Sent, afterSent, heardSent}
 use Rattle.demand_steps.specs.Watching.{Watch, watch}

@@ -8,7 +8,7 @@ use borrow.Author.Tests.{eqb-true, not-true}
 use Rattle.choice.specs.Pick.{pick}
 use Rattle.choice.proofs.Picks.{picked, each}
 use Rattle.choice.proofs.Tests.{never, both, either}
-use Rattle.record.specs.Classes.{granted}
+use Rattle.answers.specs.Classes.{granted}
 use Rattle.record.specs.Answers.{Told}
 use Rattle.record.specs.Fields.{top}
 use Rattle.record.specs.declared.Record.{Record}

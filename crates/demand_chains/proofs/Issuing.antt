@@ -9,15 +9,16 @@ use Rattle.choice.specs.Pick.{pick, _and_}
 use Rattle.choice.proofs.Picks.{picked, each}
 use Rattle.choice.proofs.Tests.{never, test, either}
 use Rattle.areas.specs.Areas.{long, areaSize}
-use Rattle.record.specs.Classes.{ticketed, taken}
-use Rattle.record.specs.Answers.{Told, Said, says, saidOf}
-use Rattle.record.specs.Live.{isLive}
+use Rattle.answers.specs.Classes.{ticketed, taken}
+use Rattle.answers.specs.Answers.{Said, says}
+use Rattle.record.specs.Answers.{Told, saidOf}
+use Rattle.tickets.specs.Live.{isLive}
 use Rattle.record.specs.Fields.{top}
 use Rattle.record.specs.declared.Record.{Record}
-use Rattle.record.specs.declared.Live.{Live}
-use Rattle.record.specs.declared.Live.the-variants.{Structure, Update, Rollback}
+use Rattle.tickets.specs.declared.Live.{Live}
+use Rattle.tickets.specs.declared.Live.the-variants.{Structure, Update, Rollback}
 use Rattle.record.specs.declared.Outcome.the-variants.{Done}
-use Rattle.record.specs.declared.Answer.the-variants as A
+use Rattle.answers.specs.declared.Answer.the-variants as A
 use Rattle.wholeness.specs.Whole.{whole}
 use Rattle.step_asks.specs.Asks.{askStructureOwn, askUpdateOwn, askRollbackOwn, turned}
 use Rattle.step_reports.specs.Done.{structureDone, updateDone, rollbackDone}

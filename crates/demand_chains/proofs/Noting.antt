@@ -6,9 +6,9 @@ use mathlib.Core.List.{[], _∷_, _++_}
 use native.Mathlib.Omega.{arith}
 use borrow.Author.Tests.{eq-eqb}
 use Rattle.choice.specs.Pick.{pick, _and_}
-use Rattle.record.specs.Classes.{StepAnswer, takes}
-use Rattle.record.specs.Classes.Class.{stepping}
-use Rattle.record.specs.Answers.{said}
+use Rattle.answers.specs.Classes.{StepAnswer, takes}
+use Rattle.answers.specs.Classes.Class.{stepping}
+use Rattle.answers.specs.Answers.{said}
 use Rattle.record.specs.Given.Effect.{works}
 use Rattle.record.specs.Fields.{spent}
 use Rattle.record.specs.declared.Record.{Record}

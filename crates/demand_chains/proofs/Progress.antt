@@ -8,16 +8,17 @@ use borrow.Author.Tests.{eq-eqb, eqb-true, leb-true}
 use Rattle.choice.specs.Pick.{pick}
 use Rattle.choice.proofs.Picks.{picked}
 use Rattle.choice.proofs.Tests.{never, both, either}
-use Rattle.record.specs.Classes as Classes
-use Rattle.record.specs.Classes.{ticketed, taken}
-use Rattle.record.specs.Classes.Class.{stepping}
-use Rattle.record.specs.Classes.StepAnswer.{ticket, finished}
-use Rattle.record.specs.Answers.{Told, Said, says, saidOf, answer, refuse}
+use Rattle.answers.specs.Classes as Classes
+use Rattle.answers.specs.Classes.{ticketed, taken}
+use Rattle.answers.specs.Classes.Class.{stepping}
+use Rattle.answers.specs.Classes.StepAnswer.{ticket, finished}
+use Rattle.answers.specs.Answers.{Said, says}
+use Rattle.record.specs.Answers.{Told, saidOf, answer, refuse}
 use Rattle.record.specs.Given.Effect.{works}
 use Rattle.record.specs.Fields.{withPlace, adopting}
 use Rattle.record.specs.declared.Record.{Record}
-use Rattle.record.specs.declared.Answer.the-variants.{Ticket, Finished}
-use Rattle.record.specs.declared.Refusal.{Refusal}
+use Rattle.answers.specs.declared.Answer.the-variants.{Ticket, Finished}
+use Rattle.answers.specs.declared.Refusal.{Refusal}
 use Rattle.step_asks.specs.Asks.{askStructureOwn, askUpdateOwn, askRollbackOwn}
 use Rattle.calls.specs.Calls.{Report, Call, step}
 use Rattle.calls.specs.Calls.Work.{structure, update, rollback}

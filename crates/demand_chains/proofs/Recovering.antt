@@ -8,10 +8,10 @@ use lib.Dec.{eqb, ltb}
 use borrow.Author.Tests.{eq-eqb, ne-eqb, lt-ltb, le-ltb}
 use Rattle.choice.specs.Pick.{pick, _and_}
 use Rattle.areas.specs.Areas.{long}
-use Rattle.record.specs.Classes.{successful}
+use Rattle.answers.specs.Classes.{successful}
 use Rattle.record.specs.Answers.{Told, refuse}
 use Rattle.record.specs.declared.Record.{Record}
-use Rattle.record.specs.declared.Refusal.the-variants.{Idle, NotReady, TooLong}
+use Rattle.answers.specs.declared.Refusal.the-variants.{Idle, NotReady, TooLong}
 use Rattle.step_ends.specs.Ending.{unrestored, recoverOwn, recoverRetainedOwn}
 use Rattle.calls.specs.Calls.{step}
 use Rattle.calls.specs.Calls.Call.{recover, recoverRetained}

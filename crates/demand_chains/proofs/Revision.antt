@@ -6,9 +6,10 @@ use mathlib.Core.List.{List, []}
 use native.Mathlib.Omega.{arith}
 use Rattle.choice.specs.Pick.{pick}
 use Rattle.phases.specs.Phases.{successor}
-use Rattle.record.specs.Classes.{StepAnswer}
-use Rattle.record.specs.Classes.Class.{stepping}
-use Rattle.record.specs.Answers.{Told, said, saidOf}
+use Rattle.answers.specs.Classes.{StepAnswer}
+use Rattle.answers.specs.Classes.Class.{stepping}
+use Rattle.answers.specs.Answers.{said}
+use Rattle.record.specs.Answers.{Told, saidOf}
 use Rattle.record.specs.Given.Effect.{works}
 use Rattle.record.specs.Fields.{adopting}
 use Rattle.record.specs.declared.Record.{Record}

@@ -8,9 +8,9 @@ use native.Mathlib.Omega.{arith}
 use Rattle.choice.specs.Pick.{pick, _or_}
 use Rattle.choice.proofs.Tests.{never, join}
 use Rattle.phases.specs.Phases.{successor}
-use Rattle.record.specs.Classes.{Class, granted, ticketed}
-use Rattle.record.specs.Classes.Class.{performed, refusal, stepping}
-use Rattle.record.specs.Classes.StepAnswer.{ticket, waiting, failed, more, finished}
+use Rattle.answers.specs.Classes.{Class, granted, ticketed}
+use Rattle.answers.specs.Classes.Class.{performed, refusal, stepping}
+use Rattle.answers.specs.Classes.StepAnswer.{ticket, waiting, failed, more, finished}
 use Rattle.record.specs.Answers.{Told}
 use Rattle.record.specs.Fields.{top}
 use Rattle.record.specs.declared.Record.{Record}

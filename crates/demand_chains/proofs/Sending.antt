@@ -7,12 +7,12 @@ use mathlib.Core.List.{List, [], _∷_, map}
 use Rattle.choice.specs.Pick.{pick, _and_}
 use Rattle.choice.proofs.Tests.{no-right}
 use Rattle.choice.proofs.Picks.{no, each}
-use Rattle.record.specs.Classes.{Class}
+use Rattle.answers.specs.Classes.{Class}
 use Rattle.record.specs.Answers.{Told, saidOf, refuse}
 use Rattle.record.specs.Leaves.{leaves}
 use Rattle.record.specs.declared.Record.{Record}
-use Rattle.record.specs.declared.Refusal.{Refusal}
-use Rattle.record.specs.declared.Refusal.the-variants.{LogFull}
+use Rattle.answers.specs.declared.Refusal.{Refusal}
+use Rattle.answers.specs.declared.Refusal.the-variants.{LogFull}
 use Rattle.wholeness.specs.Whole.{whole}
 use Rattle.log.specs.Log.{full}
 use Rattle.noting.specs.Recorded.{recorded}

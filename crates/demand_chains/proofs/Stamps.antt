@@ -11,12 +11,13 @@ use borrow.Author.Tests.{eq-eqb, ne-eqb}
 use Rattle.choice.specs.Pick.{pick, _and_}
 use Rattle.choice.proofs.Picks.{picked}
 use Rattle.choice.proofs.Tests.{never, test, eqb-ne, tests}
-use Rattle.record.specs.Classes.{refused}
-use Rattle.record.specs.Classes.Class.{performed}
-use Rattle.record.specs.Answers.{Told, Said, said, told, saidOf, refuse}
+use Rattle.answers.specs.Classes.{refused}
+use Rattle.answers.specs.Classes.Class.{performed}
+use Rattle.answers.specs.Answers.{Said, said}
+use Rattle.record.specs.Answers.{Told, told, saidOf, refuse}
 use Rattle.record.specs.Fields.{top}
 use Rattle.record.specs.declared.Record.{Record}
-use Rattle.record.specs.declared.Refusal.{Refusal}
+use Rattle.answers.specs.declared.Refusal.{Refusal}
 use Rattle.wholeness.specs.Whole.{whole}
 use Rattle.step_stamps.specs.Stamping.{saysStamping, saysChecked, stampOf, passes}
 use Rattle.step_stamps.specs.declared.SaveStamp.{SaveStamp}

@@ -9,12 +9,12 @@ use lib.ListN.{length}
 use borrow.Author.Tests.{ltb-false}
 use Rattle.choice.proofs.Tests.{never}
 use Rattle.areas.specs.Areas.{long, areaSize}
-use Rattle.record.specs.Classes.{successful}
+use Rattle.answers.specs.Classes.{successful}
 use Rattle.record.specs.Answers.{Told}
 use Rattle.record.specs.Fields.{top}
 use Rattle.record.specs.declared.Record.{Record}
 use Rattle.record.specs.declared.Opening.{Opening}
-use Rattle.record.specs.declared.Refusal.the-variants.{TooLong}
+use Rattle.answers.specs.declared.Refusal.the-variants.{TooLong}
 use Rattle.wholeness.specs.Whole.{whole}
 use Rattle.step_begins.specs.Opening.{unopened, openBars, opening, openStep}
 use Rattle.calls.specs.Calls.{Call}

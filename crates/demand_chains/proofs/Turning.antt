@@ -6,11 +6,12 @@ use mathlib.Core.List.{List, [], _∷_}
 use borrow.Author.Tests.{not-true, not-false}
 use Rattle.choice.specs.Pick.{pick, _and_, _or_}
 use Rattle.choice.proofs.Tests.{never, both, neither}
-use Rattle.record.specs.Classes.{successful}
-use Rattle.record.specs.Answers.{Told, Said, saidOf}
+use Rattle.answers.specs.Classes.{successful}
+use Rattle.answers.specs.Answers.{Said}
+use Rattle.record.specs.Answers.{Told, saidOf}
 use Rattle.record.specs.Given.Effect.{works}
 use Rattle.record.specs.declared.Record.{Record}
-use Rattle.record.specs.declared.Refusal.the-variants.{NotReady}
+use Rattle.answers.specs.declared.Refusal.the-variants.{NotReady}
 use Rattle.wholeness.specs.Whole.{complete}
 use Rattle.step_ends.specs.Ending.{commitBars, commitOwn}
 use Rattle.calls.specs.Calls.{Report, Call, step}

@@ -8,7 +8,7 @@ use borrow.Author.Tests.{eqb-true}
 use Rattle.choice.specs.Pick.{pick, _and_}
 use Rattle.choice.proofs.Tests.{test, eqb-ne}
 use Rattle.record.specs.Answers.{Told, saidOf}
-use Rattle.record.specs.Live as Tickets
+use Rattle.tickets.specs.Live as Tickets
 use Rattle.record.specs.Fields.{adopting}
 use Rattle.record.specs.declared.Record.{Record}
 use Rattle.step_begins.specs.Beginning.{firstPhase, begun}

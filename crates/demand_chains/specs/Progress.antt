@@ -8,14 +8,15 @@ use lib.ListN.{length}
 use Rattle.choice.specs.Pick.{pick, _and_}
 use Rattle.phases.specs.Phases.{updates, adopt}
 use Rattle.areas.specs.Areas.{areaSize}
-use Rattle.record.specs.Classes.{successful, taken}
-use Rattle.record.specs.Classes.Class.{stepping}
-use Rattle.record.specs.Classes.StepAnswer.{finished}
-use Rattle.record.specs.Answers.{says, saidOf}
+use Rattle.answers.specs.Classes.{successful, taken}
+use Rattle.answers.specs.Classes.Class.{stepping}
+use Rattle.answers.specs.Classes.StepAnswer.{finished}
+use Rattle.answers.specs.Answers.{says}
+use Rattle.record.specs.Answers.{saidOf}
 use Rattle.record.specs.Fields.{withPlace}
 use Rattle.record.specs.declared.Record.{Record}
 use Rattle.record.specs.declared.Outcome.the-variants.{Done}
-use Rattle.record.specs.declared.Answer.the-variants.{Ticket}
+use Rattle.answers.specs.declared.Answer.the-variants.{Ticket}
 use Rattle.calls.specs.Calls.{Call, step}
 use Rattle.calls.specs.Calls.Work.{structure, update, rollback}
 use Rattle.calls.specs.Calls.Report.{structured, updated, rolledBack}

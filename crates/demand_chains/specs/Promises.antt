@@ -6,7 +6,7 @@ use mathlib.Core.Logic.{_≢_}
 use lib.Dec.{eqb}
 use lib.ListN.{length}
 use Rattle.choice.specs.Pick.{_and_}
-use Rattle.record.specs.Classes.{successful, granted}
+use Rattle.answers.specs.Classes.{successful, granted}
 use Rattle.record.specs.Fields.{top}
 use Rattle.record.specs.declared.Record.{Record}
 use Rattle.calls.specs.Calls.{Call, step}

@@ -3,10 +3,10 @@
 use mathlib.Core.Bool.{Bool, true, false}
 use mathlib.Core.List.{List, [], _∷_}
 use Rattle.choice.specs.Pick.{pick, _and_}
-use Rattle.record.specs.Classes.{Class}
+use Rattle.answers.specs.Classes.{Class}
 use Rattle.record.specs.Answers.{Told, refuse}
 use Rattle.record.specs.declared.Record.{Record}
-use Rattle.record.specs.declared.Refusal.the-variants.{LogFull}
+use Rattle.answers.specs.declared.Refusal.the-variants.{LogFull}
 use Rattle.step_begins.specs.Opening.{openStep}
 use Rattle.calls.specs.Calls.{Call, stepWith, AnyCall}
 use Rattle.calls.specs.Calls.AnyCall.{opens, calls}

@@ -7,7 +7,7 @@ use lib.Dec.{eqb}
 use lib.ListN.{length}
 use Rattle.choice.specs.Pick.{pick, _and_, _or_}
 use Rattle.areas.specs.Areas.{long}
-use Rattle.record.specs.Classes.{successful}
+use Rattle.answers.specs.Classes.{successful}
 use Rattle.record.specs.declared.Record.{Record}
 use Rattle.log.specs.Kinds as kinds
 use Rattle.calls.specs.Calls.{step}

@@ -9,7 +9,7 @@ use Rattle.choice.proofs.Picks.{each}
 use Rattle.record.specs.Answers.{Told, refuse}
 use Rattle.record.specs.Leaves.{Leaves, leaves}
 use Rattle.record.specs.declared.Record.{Record}
-use Rattle.record.specs.declared.Refusal.the-variants.{LogFull}
+use Rattle.answers.specs.declared.Refusal.the-variants.{LogFull}
 use Rattle.calls.specs.Calls.{Call, AnyCall}
 use Rattle.calls.specs.Calls.AnyCall.{opens, calls}
 use Rattle.calls.specs.Lending.{callOf, lent, moved, leavesOf}

@@ -6,9 +6,10 @@ use mathlib.Core.Bool.{Bool, true}
 use mathlib.Core.List.{List, [], _∷_, _++_}
 use native.Mathlib.Omega.{arith}
 use Rattle.choice.specs.Pick.{pick}
-use Rattle.record.specs.Classes.{successful}
-use Rattle.record.specs.Classes.Class.{performed}
-use Rattle.record.specs.Answers.{Told, said, saidOf}
+use Rattle.answers.specs.Classes.{successful}
+use Rattle.answers.specs.Classes.Class.{performed}
+use Rattle.answers.specs.Answers.{said}
+use Rattle.record.specs.Answers.{Told, saidOf}
 use Rattle.record.specs.Fields.{top}
 use Rattle.record.specs.declared.Record.{Record}
 use Rattle.record.specs.declared.Opening.{Opening}

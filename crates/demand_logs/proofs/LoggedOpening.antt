@@ -9,7 +9,7 @@ use Rattle.choice.specs.Pick.{pick, _and_}
 use Rattle.choice.proofs.Picks.{no}
 use Rattle.choice.proofs.Tests.{never, both}
 use Rattle.areas.specs.Areas.{sized, copied}
-use Rattle.record.specs.Classes.{refused}
+use Rattle.answers.specs.Classes.{refused}
 use Rattle.record.specs.Leaves.{Leaves, leaves}
 use Rattle.record.specs.declared.Opening.{Opening}
 use Rattle.step_begins.specs.Opening.{openStep}

@@ -13,12 +13,12 @@ use borrow.Author.Tests.{eqb-false}
 use Rattle.choice.specs.Pick.{pick, _and_}
 use Rattle.choice.proofs.Picks.{yes, no, picked}
 use Rattle.choice.proofs.Tests.{never, test}
-use Rattle.record.specs.Classes.{Class}
+use Rattle.answers.specs.Classes.{Class}
 use Rattle.record.specs.Answers.{Told, refuse}
 use Rattle.record.specs.Leaves.{Leaves, leaves}
 use Rattle.record.specs.Fields.{top}
 use Rattle.record.specs.declared.Record.{Record}
-use Rattle.record.specs.declared.Refusal.the-variants.{LogFull}
+use Rattle.answers.specs.declared.Refusal.the-variants.{LogFull}
 use Rattle.wholeness.specs.Whole.{whole}
 use Rattle.log.specs.Log.{logSized, count, room, sound, full}
 use Rattle.events.specs.Entries.{Entry, entries, logOf, eventIf}

@@ -7,8 +7,8 @@ use mathlib.Core.List.{[], _∷_}
 use lib.Dec.{eqb}
 use Rattle.choice.specs.Pick.{pick}
 use Rattle.choice.proofs.Tests.{never}
-use Rattle.record.specs.Classes.{numberOf, refused}
-use Rattle.record.specs.Answers.{Said}
+use Rattle.answers.specs.Classes.{numberOf, refused}
+use Rattle.answers.specs.Answers.{Said}
 use Rattle.record.specs.declared.Record.{Record}
 use Rattle.wholeness.specs.Whole.{whole}
 use Rattle.step_stamps.specs.Stamping.{passes, checkStep}

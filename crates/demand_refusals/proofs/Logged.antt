@@ -5,11 +5,11 @@ use mathlib.Core.Bool.{Bool, true, false, not}
 use mathlib.Core.List.{List, _∷_}
 use Rattle.choice.specs.Pick.{pick, _and_, _or_}
 use Rattle.choice.proofs.Tests.{no-right}
-use Rattle.record.specs.Classes.{numberOf, refused}
+use Rattle.answers.specs.Classes.{numberOf, refused}
 use Rattle.record.specs.Answers.{Told, refuse}
 use Rattle.record.specs.Leaves.{Leaves, leaves}
 use Rattle.record.specs.declared.Record.{Record}
-use Rattle.record.specs.declared.Refusal.the-variants.{LogFull}
+use Rattle.answers.specs.declared.Refusal.the-variants.{LogFull}
 use Rattle.log.specs.Log.{sound, full, appended}
 use Rattle.calls.specs.Calls.{AnyCall, stepOf}
 use Rattle.calls.specs.Calls.AnyCall.{opens, calls}

@@ -6,7 +6,7 @@ use mathlib.Core.Bool.{true}
 use mathlib.Core.List.{List}
 use lib.Dec.{eqb}
 use Rattle.choice.specs.Pick.{_and_, _or_}
-use Rattle.record.specs.Classes.{numberOf, refused}
+use Rattle.answers.specs.Classes.{numberOf, refused}
 use Rattle.status.specs.Status.{Marks, put, entryOf, marking, marksOf}
 use Rattle.status.specs.declared.Entry.{Entry}
 use Rattle.status.specs.declared.StatusCall.{StatusCall}

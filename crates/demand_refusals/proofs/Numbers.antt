@@ -1,10 +1,10 @@
 -- Document 01's numbers hold of the names: every class of answers, every kind of event, every status bit. Assumes nothing.
 use mathlib.Core.Path.{refl}
 use Rattle.choice.specs.Pick.{_and_, _or_}
-use Rattle.record.specs.Classes.{Class, numberOf, refusalWritten}
-use Rattle.record.specs.Classes.Class.{performed, refusal, stepping}
-use Rattle.record.specs.Classes.StepAnswer.{ticket, waiting, failed, more, finished}
-use Rattle.record.specs.declared.Refusal.the-variants.{Pending, Idle, Capacity, NotReady, Recovering, BadArea, Damaged, TooLong, TooMany, Stale, Worn, LogFull, NoStatus}
+use Rattle.answers.specs.Classes.{Class, numberOf, refusalWritten}
+use Rattle.answers.specs.Classes.Class.{performed, refusal, stepping}
+use Rattle.answers.specs.Classes.StepAnswer.{ticket, waiting, failed, more, finished}
+use Rattle.answers.specs.declared.Refusal.the-variants.{Pending, Idle, Capacity, NotReady, Recovering, BadArea, Damaged, TooLong, TooMany, Stale, Worn, LogFull, NoStatus}
 use Rattle.calls.specs.Kinds.{kindOf}
 use Rattle.demand_refusals.specs.Numbers.{Numbered, Kinds, Bits}
 

@@ -8,7 +8,7 @@ use mathlib.Core.List.{List, _∷_}
 use lib.Dec.{eqb}
 use Rattle.choice.specs.Pick.{pick, _or_}
 use Rattle.choice.proofs.Tests.{never, no-left}
-use Rattle.record.specs.Classes.{numberOf, refused}
+use Rattle.answers.specs.Classes.{numberOf, refused}
 use Rattle.record.specs.declared.Record.{Record}
 use Rattle.log.specs.Log.{full}
 use Rattle.calls.specs.Lending.{Lending, callOf, lent}

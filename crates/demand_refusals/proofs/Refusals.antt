@@ -8,23 +8,23 @@ use borrow.Author.Tests.{not-false}
 use Rattle.choice.specs.Pick.{pick, _and_, _or_}
 use Rattle.choice.proofs.Tests.{both}
 use Rattle.phases.specs.Phases.{hasSuccessor, successor, boundary}
-use Rattle.record.specs.Classes.{refusalNumber, numberOf, refused}
-use Rattle.record.specs.Classes.Class.{performed}
+use Rattle.answers.specs.Classes.{refusalNumber, numberOf, refused}
+use Rattle.answers.specs.Classes.Class.{performed}
 use Rattle.record.specs.Answers.{Told, told, answer, refuse}
 use Rattle.record.specs.Given.{effectOf}
 use Rattle.record.specs.Fields.{spent}
 use Rattle.record.specs.declared.Record.{Record}
-use Rattle.record.specs.declared.Answer.the-variants.{More, Finished}
+use Rattle.answers.specs.declared.Answer.the-variants.{More, Finished}
 use Rattle.record.specs.declared.Outcome.{Outcome}
 use Rattle.record.specs.declared.Outcome.the-variants as O
-use Rattle.record.specs.declared.Refusal.{Refusal}
-use Rattle.record.specs.declared.Refusal.the-variants.{NotReady, Recovering, BadArea, Damaged, Worn}
+use Rattle.answers.specs.declared.Refusal.{Refusal}
+use Rattle.answers.specs.declared.Refusal.the-variants.{NotReady, Recovering, BadArea, Damaged, Worn}
 use Rattle.log.specs.Kinds.{reports}
 use Rattle.wholeness.specs.Whole.{whole}
-use Rattle.wholeness.specs.Gates.{gateOf, gated, Bar, barring, longSnapshot}
-use Rattle.wholeness.specs.declared.Gate.the-variants.{Open, Shut}
+use Rattle.gates.specs.Gates.{gateOf, gated, Bar, barring, longSnapshot}
+use Rattle.gates.specs.declared.Gate.the-variants.{Open, Shut}
 use Rattle.wholeness.proofs.Facts.{parts, live-structure}
-use Rattle.wholeness.proofs.Passing.{Clear}
+use Rattle.gates.proofs.Passing.{Clear}
 use Rattle.step_begins.specs.Opening.{unopened, openBars, openStep}
 use Rattle.step_begins.specs.Beginning.{beginBars, beginOwn, editBars, editOwn}
 use Rattle.step_asks.specs.Asks.{askStructureOwn, askUpdateOwn, askRollbackOwn}

@@ -7,7 +7,7 @@ use mathlib.Core.List.{List, [], _∷_}
 use lib.Dec.{eqb}
 use Rattle.choice.specs.Pick.{pick, _and_, _or_}
 use Rattle.choice.proofs.Tests.{never}
-use Rattle.record.specs.Classes.{Class, numberOf, refused}
+use Rattle.answers.specs.Classes.{Class, numberOf, refused}
 use Rattle.demand_refusals.specs.Rows.{Row, _when_, otherwise, given}
 
 -- the class and the number of an answer, and what it says of all that the call was given where it is a refusal

@@ -5,7 +5,7 @@ use mathlib.Core.Path.{_≡_, refl, sym}
 use mathlib.Core.Bool.{true, false}
 use lib.Dec.{eqb}
 use Rattle.choice.proofs.Picks.{yes}
-use Rattle.record.specs.Classes.{refused}
+use Rattle.answers.specs.Classes.{refused}
 use Rattle.record.specs.declared.Record.{Record}
 use Rattle.calls.specs.Lending.{Lending, callOf, lent, fits, moved, leavesOf}
 use Rattle.demand_refusals.specs.Rows.{given, among}

@@ -2,11 +2,12 @@
 use Prim.Native.Nat.{ℕ}
 use mathlib.Core.Path.{_≡_, sym, _∙_, ap}
 use mathlib.Core.List.{List, _∷_}
-use Rattle.record.specs.Answers.{Told, Said, told, saidOf, tells}
+use Rattle.answers.specs.Answers.{Said}
+use Rattle.record.specs.Answers.{Told, told, saidOf, tells}
 use Rattle.record.specs.Leaves.{Leaves, leaves}
 use Rattle.record.specs.declared.Record.{Record}
 use Rattle.record.specs.declared.Stepped.{Stepped}
-use Rattle.record.proofs.Saying.{tells-one}
+use Rattle.record.proofs.Telling.{tells-one}
 use Rattle.step_stamps.specs.Stamping.{saysStamping, saysChecked}
 use Rattle.step_stamps.specs.declared.Stamping.{Stamping}
 use Rattle.step_stamps.specs.declared.Checked.{Checked}

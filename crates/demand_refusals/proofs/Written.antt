@@ -8,9 +8,9 @@ use borrow.Author.Tests.{eqb-true}
 use Rattle.choice.specs.Pick.{pick, _and_, _or_}
 use Rattle.choice.proofs.Picks.{yes}
 use Rattle.choice.proofs.Tests.{never, neither, and-true, test}
-use Rattle.record.specs.Classes.{Class, numberOf, refused, stepWritten, callWritten}
-use Rattle.record.specs.Classes as Classes
-use Rattle.record.specs.Classes.Class.{performed, refusal, stepping}
+use Rattle.answers.specs.Classes.{Class, numberOf, refused, stepWritten, callWritten}
+use Rattle.answers.specs.Classes as Classes
+use Rattle.answers.specs.Classes.Class.{performed, refusal, stepping}
 use Rattle.record.specs.declared.Record.{Record}
 use Rattle.log.specs.Kinds.{asks, reports}
 use Rattle.calls.specs.Calls.{Call, AnyCall, stepWith, stepOf}

@@ -6,7 +6,7 @@ use mathlib.Core.Bool.{Bool, true, false}
 use mathlib.Core.List.{List, [], _∷_, map}
 use lib.Dec.{eqb, leb}
 use Rattle.choice.specs.Pick.{_and_, _or_}
-use Rattle.record.specs.Classes.{Class, refused, successful, granted, ticketed, taken, stepWritten}
+use Rattle.answers.specs.Classes.{Class, refused, successful, granted, ticketed, taken, stepWritten}
 use Rattle.record.specs.declared.Beginning.{Beginning}
 use Rattle.record.specs.declared.Outcome.{Outcome}
 use Rattle.status.specs.Status.{groupLive, groupSettled, groupPending, markLinked, markCancelled, markInitialized, markFinished}

@@ -9,8 +9,8 @@ use Rattle.phases.specs.Phases.{boundary}
 use Rattle.areas.specs.Areas.{long}
 use Rattle.batch.specs.Batch.{limit}
 use Rattle.record.specs.Fields.{top}
-use Rattle.record.specs.Live.{isLive}
-use Rattle.record.specs.Live as Tickets
+use Rattle.tickets.specs.Live.{isLive}
+use Rattle.tickets.specs.Live as Tickets
 use Rattle.record.specs.declared.Record.{Record}
 use Rattle.record.specs.declared.Beginning.{Beginning}
 use Rattle.record.specs.declared.Outcome.{Outcome}

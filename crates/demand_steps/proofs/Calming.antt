@@ -4,8 +4,8 @@ use mathlib.Core.Path.{_≡_, refl}
 use mathlib.Core.Bool.{Bool, true}
 use native.Mathlib.Omega.{arith}
 use Rattle.record.specs.Fields.{top}
-use Rattle.record.specs.declared.Live.{Live}
-use Rattle.record.specs.declared.Live.the-variants.{None}
+use Rattle.tickets.specs.declared.Live.{Live}
+use Rattle.tickets.specs.declared.Live.the-variants.{None}
 use Rattle.demand_steps.proofs.Facts.{Calm, tests}
 use Rattle.demand_steps.proofs.Facts.Calm.{on, off}
 

@@ -9,17 +9,18 @@ use Rattle.choice.specs.Pick.{pick, _or_}
 use Rattle.choice.proofs.Picks.{picked, each}
 use Rattle.choice.proofs.Tests.{either, neither, eqb-ne, tests}
 use Rattle.areas.specs.Areas.{long, areaSize}
-use Rattle.record.specs.Answers.{Told, says, refuse}
+use Rattle.answers.specs.Answers.{says}
+use Rattle.record.specs.Answers.{Told, refuse}
 use Rattle.record.specs.Given.{effectOf}
 use Rattle.record.specs.Fields.{spent, adopting}
 use Rattle.record.specs.declared.Record.{Record}
 use Rattle.record.specs.declared.Outcome.{Outcome}
 use Rattle.record.specs.declared.Outcome.the-variants as O
-use Rattle.record.specs.declared.Answer.the-variants.{Finished}
-use Rattle.record.specs.declared.Refusal.{Refusal}
-use Rattle.record.specs.declared.Refusal.the-variants.{Pending, Idle, Capacity, TooLong, TooMany, Stale}
-use Rattle.wholeness.specs.Gates.{Bar, barring, longSnapshot}
-use Rattle.wholeness.proofs.Passing.{Fails}
+use Rattle.answers.specs.declared.Answer.the-variants.{Finished}
+use Rattle.answers.specs.declared.Refusal.{Refusal}
+use Rattle.answers.specs.declared.Refusal.the-variants.{Pending, Idle, Capacity, TooLong, TooMany, Stale}
+use Rattle.gates.specs.Gates.{Bar, barring, longSnapshot}
+use Rattle.gates.proofs.Passing.{Fails}
 use Rattle.step_begins.specs.Beginning.{beginBars, beginOwn, editBars, editOwn}
 use Rattle.step_asks.specs.Asks.{askStructureOwn, askUpdateOwn, askRollbackOwn}
 use Rattle.step_reports.specs.Done.{structureDone, updateDone, leaving, rollbackDone}

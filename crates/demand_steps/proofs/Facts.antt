@@ -9,8 +9,8 @@ use borrow.Author.Tests.{ltb-true, ltb-false}
 use Rattle.choice.proofs.Tests as T
 use Rattle.record.specs.Fields.{top}
 use Rattle.record.specs.declared.Record.{Record}
-use Rattle.record.specs.declared.Live.{Live}
-use Rattle.record.specs.declared.Live.the-variants.{None, Structure, Update, Rollback}
+use Rattle.tickets.specs.declared.Live.{Live}
+use Rattle.tickets.specs.declared.Live.the-variants.{None, Structure, Update, Rollback}
 use Rattle.wholeness.proofs.Facts.{Counts}
 use Rattle.demand_steps.proofs.Leaf.{Apart, Updates, Lengths}
 

@@ -5,7 +5,7 @@ use mathlib.Core.List.{List}
 use Rattle.choice.proofs.Picks.{each}
 use Rattle.phases.specs.declared.Next.{Next}
 use Rattle.phases.specs.declared.Next.the-variants.{To, Nowhere}
-use Rattle.record.specs.Answers.{Said}
+use Rattle.answers.specs.Answers.{Said}
 use Rattle.record.specs.Given.Effect.{works}
 use Rattle.record.specs.Fields.{withPlace}
 use Rattle.record.specs.declared.Record.{Record}

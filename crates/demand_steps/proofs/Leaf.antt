@@ -9,18 +9,19 @@ use Rattle.choice.specs.Pick.{pick}
 use Rattle.phases.specs.Phases.{updates, adopt, undo, recoverRemove}
 use Rattle.areas.specs.Areas.{areaSize}
 use Rattle.batch.specs.Batch.{limit}
-use Rattle.record.specs.Classes.{StepAnswer, takes}
-use Rattle.record.specs.Classes.Class.{stepping}
-use Rattle.record.specs.Answers.{Told, Said, said, told, answer}
-use Rattle.record.specs.Live.{isLive}
-use Rattle.record.specs.Live as Tickets
+use Rattle.answers.specs.Classes.{StepAnswer, takes}
+use Rattle.answers.specs.Classes.Class.{stepping}
+use Rattle.answers.specs.Answers.{Said, said}
+use Rattle.record.specs.Answers.{Told, told, answer}
+use Rattle.tickets.specs.Live.{isLive}
+use Rattle.tickets.specs.Live as Tickets
 use Rattle.record.specs.Fields.{top, withLengths, withPlace, spent, adopting}
 use Rattle.record.specs.declared.Record.{Record}
 use Rattle.record.specs.declared.Beginning.{Beginning}
-use Rattle.record.specs.declared.Live.the-variants.{Structure, Update, Rollback}
+use Rattle.tickets.specs.declared.Live.the-variants.{Structure, Update, Rollback}
 use Rattle.record.specs.declared.Outcome.the-variants as O
-use Rattle.record.specs.declared.Answer.the-variants.{Done, Finished}
-use Rattle.record.specs.declared.Was.the-variants.{Nothing, Three}
+use Rattle.answers.specs.declared.Answer.the-variants.{Done, Finished}
+use Rattle.answers.specs.declared.Was.the-variants.{Nothing, Three}
 use Rattle.step_begins.specs.Beginning.{firstPhase, begun}
 use Rattle.record.specs.Given.{opening}
 use Rattle.step_asks.specs.Asks.{issue, started, turned}

@@ -5,16 +5,17 @@ use mathlib.Core.Bool.{Bool, true, false, not}
 use mathlib.Core.List.{List, [], _∷_}
 use Rattle.choice.specs.Pick.{pick, _and_}
 use Rattle.choice.proofs.Picks.{picked}
-use Rattle.record.specs.Answers.{Told, Said, says, told, refuse}
+use Rattle.answers.specs.Answers.{Said, says}
+use Rattle.record.specs.Answers.{Told, told, refuse}
 use Rattle.record.specs.declared.Record.{Record}
-use Rattle.record.specs.declared.Answer.the-variants.{Refused}
-use Rattle.record.specs.declared.Refusal.{Refusal}
-use Rattle.record.specs.declared.Refusal.the-variants.{Damaged, Pending}
+use Rattle.answers.specs.declared.Answer.the-variants.{Refused}
+use Rattle.answers.specs.declared.Refusal.{Refusal}
+use Rattle.answers.specs.declared.Refusal.the-variants.{Damaged, Pending}
 use Rattle.wholeness.specs.Whole.{whole}
-use Rattle.wholeness.specs.Gates.{gateOf, gated, Bar, barring}
-use Rattle.wholeness.specs.declared.Gate.{Gate}
-use Rattle.wholeness.specs.declared.Gate.the-variants.{Open, Shut}
-use Rattle.wholeness.proofs.Passing.{passed, Clear, Fails, fails}
+use Rattle.gates.specs.Gates.{gateOf, gated, Bar, barring}
+use Rattle.gates.specs.declared.Gate.{Gate}
+use Rattle.gates.specs.declared.Gate.the-variants.{Open, Shut}
+use Rattle.gates.proofs.Passing.{passed, Clear, Fails, fails}
 use Rattle.step_begins.specs.Beginning.{beginOwn, editOwn}
 use Rattle.step_asks.specs.Asks.{askStructureOwn, askUpdateOwn, askRollbackOwn}
 use Rattle.step_reports.specs.Reports.{reportStructureOwn, reportUpdateOwn, reportRollbackOwn}

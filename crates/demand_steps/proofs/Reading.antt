@@ -9,10 +9,10 @@ use Rattle.choice.specs.Pick.{_or_, _implies_}
 use Rattle.choice.proofs.Tests.{both, either, follows, join}
 use Rattle.phases.specs.Phases.{hasSuccessor}
 use Rattle.record.specs.Fields.{top}
-use Rattle.record.specs.Live.{workOf, noTicket}
+use Rattle.tickets.specs.Live.{workOf, noTicket}
 use Rattle.record.specs.declared.Record.{Record}
-use Rattle.record.specs.declared.Live.{Live}
-use Rattle.record.specs.declared.Live.the-variants.{None, Structure, Update, Rollback}
+use Rattle.tickets.specs.declared.Live.{Live}
+use Rattle.tickets.specs.declared.Live.the-variants.{None, Structure, Update, Rollback}
 use Rattle.wholeness.specs.Whole.{whole, lengthsFit, stagedFits, forwardFits, backFits, restoringFits, liveFits}
 use Rattle.wholeness.proofs.Facts.{Parts, parts, Counts, counts-of}
 use Rattle.demand_steps.proofs.Leaf.{Apart, Lengths}

@@ -4,11 +4,11 @@ use mathlib.Core.Path.{_≡_, refl, sym, subst}
 use mathlib.Core.Bool.{true}
 use mathlib.Core.List.{List, []}
 use Rattle.choice.proofs.Tests.{never}
-use Rattle.record.specs.Classes.{successful}
+use Rattle.answers.specs.Classes.{successful}
 use Rattle.record.specs.Answers.{Told}
 use Rattle.record.specs.Given.{standing}
 use Rattle.record.specs.declared.Record.{Record}
-use Rattle.wholeness.specs.Gates.{Bar, barring, longSnapshot}
+use Rattle.gates.specs.Gates.{Bar, barring, longSnapshot}
 use Rattle.step_begins.specs.Opening.{opening}
 use Rattle.step_ends.specs.Ending.{afterCommit, commitBars, commitOwn, recoverBars, recoverOwn, recoverRetainedOwn}
 use Rattle.calls.specs.Calls.{Call, step}

@@ -4,11 +4,11 @@ use mathlib.Core.Path.{_≡_, refl, _∙_, ap}
 use mathlib.Core.Bool.{true, false}
 use borrow.Author.Tests.{eqb-true}
 use Rattle.choice.proofs.Tests.{both}
-use Rattle.record.specs.Live.{workOf, number, isLive}
-use Rattle.record.specs.Live as Tickets
+use Rattle.tickets.specs.Live.{workOf, number, isLive}
+use Rattle.tickets.specs.Live as Tickets
 use Rattle.record.specs.declared.Record.{Record}
-use Rattle.record.specs.declared.Live.{Live}
-use Rattle.record.specs.declared.Live.the-variants.{None, Structure, Update, Rollback}
+use Rattle.tickets.specs.declared.Live.{Live}
+use Rattle.tickets.specs.declared.Live.the-variants.{None, Structure, Update, Rollback}
 use Rattle.wholeness.proofs.Facts.{Counts}
 use Rattle.demand_steps.proofs.Leaf.{Updates}
 use Rattle.demand_steps.proofs.Facts as Facts

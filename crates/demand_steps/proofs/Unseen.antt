@@ -3,11 +3,11 @@ use Prim.Native.Nat.{ℕ}
 use mathlib.Core.Path.{_≡_, refl}
 use mathlib.Core.List.{[]}
 use Rattle.choice.specs.Pick.{pick}
-use Rattle.record.specs.Classes.Class.{refusal}
-use Rattle.record.specs.Answers.{Said, said}
+use Rattle.answers.specs.Classes.Class.{refusal}
+use Rattle.answers.specs.Answers.{Said, said}
 use Rattle.record.specs.Given.{Effect, effectOf}
 use Rattle.record.specs.Given.Effect.{rests, works}
-use Rattle.record.specs.declared.Refusal.{Refusal}
+use Rattle.answers.specs.declared.Refusal.{Refusal}
 use Rattle.calls.specs.Calls.{Report, Call}
 use Rattle.calls.specs.Calls.Work.{structure, update, rollback}
 use Rattle.calls.specs.Calls.Call.{begin, ask, report, edit, commit, recover, recoverRetained, refresh, stamp, check}

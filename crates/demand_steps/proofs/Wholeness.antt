@@ -9,8 +9,8 @@ use Rattle.choice.specs.Pick.{_or_, _implies_}
 use Rattle.choice.proofs.Tests.{join}
 use Rattle.phases.specs.Phases.{hasSuccessor}
 use Rattle.record.specs.declared.Record.{Record}
-use Rattle.record.specs.declared.Live.{Live}
-use Rattle.record.specs.declared.Live.the-variants.{None, Structure, Update, Rollback}
+use Rattle.tickets.specs.declared.Live.{Live}
+use Rattle.tickets.specs.declared.Live.the-variants.{None, Structure, Update, Rollback}
 use Rattle.wholeness.specs.Whole.{whole, lengthsFit, countsFit, stagedFits, liveFits}
 use Rattle.demand_steps.proofs.Leaf.{Apart, Updates}
 use Rattle.demand_steps.proofs.Facts.{Tick, Calm, Whole, byCase}

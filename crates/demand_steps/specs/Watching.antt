@@ -5,8 +5,9 @@ use mathlib.Core.List.{List, [], _∷_, _++_}
 use lib.Dec.{eqb}
 use lib.ListN.{getD}
 use Rattle.choice.specs.Pick.{pick, _and_}
-use Rattle.record.specs.Classes.{successful, granted, ticketed, taken}
-use Rattle.record.specs.Answers.{Told, Said, saidOf}
+use Rattle.answers.specs.Classes.{successful, granted, ticketed, taken}
+use Rattle.answers.specs.Answers.{Said}
+use Rattle.record.specs.Answers.{Told, saidOf}
 use Rattle.record.specs.Given.{Effect, effectOf}
 use Rattle.record.specs.Given.Effect.{rests, works}
 use Rattle.calls.specs.Calls.{Report, Call}

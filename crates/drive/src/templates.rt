@@ -5,9 +5,9 @@ use super::AREA_HELD;
 use super::NUMBERS;
 use super::TABLE_HELD;
 use super::held;
-use record::Live;
 use rows::TOP8;
 use rows::TOP32;
+use tickets::Live;
 
 // The largest seed of a payload or of words.
 const SEED: u64 = 1000000;

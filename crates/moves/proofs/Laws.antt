@@ -6,7 +6,7 @@ use mathlib.Core.List.{List, [], _∷_, _++_}
 use borrow.Author.Tests.{not-true, not-false}
 use Rattle.choice.specs.Pick.{pick}
 use Rattle.choice.proofs.Picks.{yes, no, told}
-use Rattle.record.specs.Classes.{refused}
+use Rattle.answers.specs.Classes.{refused}
 use Rattle.record.specs.Answers.{Told}
 use Rattle.record.specs.Leaves.{Leaves, leaves, moving}
 use borrow.Author.Needs.{needs}

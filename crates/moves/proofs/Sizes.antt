@@ -11,16 +11,16 @@ use Rattle.choice.proofs.Tests.{never}
 use Rattle.areas.specs.Areas.{areaSize, sized, copied, exchanged}
 use Rattle.areas.proofs.Laws.{copied-whole, exchanged-whole, same-size, same-sizes}
 use Rattle.batch.specs.Batch.{tableWords, tableSized, paired}
-use Rattle.record.specs.Classes.{refused}
+use Rattle.answers.specs.Classes.{refused}
 use Rattle.record.specs.Answers.{Told}
 use Rattle.record.specs.Given.{ofSizes}
 use Rattle.record.specs.Leaves.{Leaves, leaves, moving}
 use Rattle.record.specs.declared.Record.{Record}
 use Rattle.record.specs.declared.Findings.{Findings}
-use Rattle.wholeness.specs.Gates.{gateOf, gated}
-use Rattle.wholeness.specs.declared.Gate.{Gate}
-use Rattle.wholeness.specs.declared.Gate.the-variants.{Open, Shut}
-use Rattle.wholeness.proofs.Passing.{passed}
+use Rattle.gates.specs.Gates.{gateOf, gated}
+use Rattle.gates.specs.declared.Gate.{Gate}
+use Rattle.gates.specs.declared.Gate.the-variants.{Open, Shut}
+use Rattle.gates.proofs.Passing.{passed}
 use Rattle.moves.proofs.Laws.{three, in-turn}
 
 unless : {A : Type 0} (b : Bool) (x : A) {y z : A} → (b ≡ false → y ≡ z) → pick b x y ≡ pick b x z

@@ -6,8 +6,8 @@ use lib.Dec.{eqb}
 use Rattle.choice.specs.Pick.{pick}
 use Rattle.phases.specs.Phases.{updates, adopt}
 use Rattle.record.specs.declared.Record.{Record}
-use Rattle.record.specs.declared.Live.{Live}
-use Rattle.record.specs.declared.Live.the-variants.{None}
+use Rattle.tickets.specs.declared.Live.{Live}
+use Rattle.tickets.specs.declared.Live.the-variants.{None}
 
 -- the serial and the live ticket
 abbrev pub withTicket : ℕ → Live → Record → Record

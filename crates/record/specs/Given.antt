@@ -4,12 +4,12 @@ use Prim.Native.Nat.{ℕ}
 use mathlib.Core.Bool.{Bool, true, false}
 use Rattle.phases.specs.Phases.{none}
 use Rattle.record.specs.declared.Record.{Record}
-use Rattle.record.specs.declared.Live.the-variants.{None}
+use Rattle.tickets.specs.declared.Live.the-variants.{None}
 use Rattle.record.specs.declared.Opening.{Opening}
 use Rattle.record.specs.declared.Beginning.{Beginning}
 use Rattle.record.specs.declared.Findings.{Findings}
-use Rattle.record.specs.declared.Answer.{Answer}
-use Rattle.record.specs.declared.Answer.the-variants as A
+use Rattle.answers.specs.declared.Answer.{Answer}
+use Rattle.answers.specs.declared.Answer.the-variants as A
 use Rattle.record.specs.declared.Outcome.{Outcome}
 use Rattle.record.specs.declared.Outcome.the-variants.{Waiting, Failed, Done}
 

@@ -3,7 +3,7 @@
 use Prim.Native.Nat.{ℕ}
 use mathlib.Core.List.{List}
 use Rattle.choice.specs.Pick.{pick}
-use Rattle.record.specs.Classes.{refused}
+use Rattle.answers.specs.Classes.{refused}
 use Rattle.record.specs.Answers.{Told}
 
 pub record Leaves : Type 0 where

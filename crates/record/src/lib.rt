@@ -1,23 +1,16 @@
 // The record of a transaction: what is kept between calls, by value; and what calls are given beside it, and answer.
-mod answers;
-mod tickets;
-
+use answers::Answer;
+use answers::Refusal;
 use phases::Phase;
+use tickets::Live;
 ghost use mathlib.Core.Path.{_≡_};
 ghost use Rattle.record.specs.Fields.{withTicket, adopting};
+ghost use Rattle.answers.specs.Classes.{refused};
 ghost use Rattle.record.specs.Answers.{answer, refuse, tells};
 ghost use Rattle.record.specs.Given.{ofSizes, start, opening, standing};
 
 // The largest u64: no revision is committed over it, and no serial is given past it.
 pub const MAX: u64 = 18446744073709551615;
-
-// Which kind of ticket is live, with its number.
-pub enum Live {
-    None,
-    Structure(u64),
-    Update(u64),
-    Rollback(u64),
-}
 
 pub struct Record {
     pub revision: u64,
@@ -66,40 +59,6 @@ pub enum Outcome {
 pub struct Reporting {
     pub ticket: u64,
     pub outcome: Outcome,
-}
-
-pub enum Refusal {
-    Pending,
-    Idle,
-    Capacity,
-    NotReady,
-    Recovering,
-    BadArea,
-    Damaged,
-    TooLong,
-    TooMany,
-    Stale,
-    Worn,
-    LogFull,
-    NoStatus,
-}
-
-// Lengths and counts as they were, which a performed call gives back.
-pub enum Was {
-    Nothing,
-    One(usize),
-    Three(usize, usize, usize),
-}
-
-// `item` of a ticket is the phase, or the action's number.
-pub enum Answer {
-    Done(Was),
-    Refused(Refusal),
-    Ticket { number: u64, item: u32 },
-    Waiting,
-    Failed(u64),
-    More,
-    Finished,
 }
 
 // What a call answers, and the record that it leaves.
@@ -215,5 +174,15 @@ impl Record {
         ensures { λ s. ⌜ tells s ≡ refuse why self ⌝ }
     {
         self.answering(Answer::Refused(why))
+    }
+}
+
+impl Stepped {
+    // Whether nothing was done.
+    pub fn is_refused(self) -> bool
+        ensures { λ b. ⌜ b ≡ refused (tells self .class) ⌝ }
+    {
+        let answer = self.answer;
+        answer.is_refused()
     }
 }

@@ -10,10 +10,10 @@ use borrow.Author.Tests.{le-leb, eqb-true}
 use Rattle.choice.specs.Pick.{pick, _and_, _or_}
 use Rattle.choice.proofs.Picks.{yes, no}
 use Rattle.choice.proofs.Tests.{both, join, test}
-use Rattle.record.specs.Live.{noTicket, rollback, workOf, number}
+use Rattle.tickets.specs.Live.{noTicket, rollback, workOf, number}
 use Rattle.record.specs.declared.Record.{Record}
-use Rattle.record.specs.declared.Live.{Live}
-use Rattle.record.specs.declared.Live.the-variants.{None, Structure, Update, Rollback}
+use Rattle.tickets.specs.declared.Live.{Live}
+use Rattle.tickets.specs.declared.Live.the-variants.{None, Structure, Update, Rollback}
 use Rattle.rows.specs.Rows.{at, flag, rowOf, fields, top8, top32, inRanges, liveOf, made, recordOf}
 use Rattle.rows.specs.declared.Row.the-variants.{Fits, Misfit}
 use Rattle.rows.proofs.Ranges.{Ranged, ranged}

@@ -7,7 +7,7 @@ use lib.Dec.{eqb}
 use mir.Val.{boolByte}
 use Rattle.choice.specs.Pick.{_or_}
 use Rattle.choice.proofs.Tests.{both, tests}
-use Rattle.record.specs.Live.{noTicket, rollback}
+use Rattle.tickets.specs.Live.{noTicket, rollback}
 use Rattle.rows.specs.Rows.{at, flag, inRanges, top8, top32}
 
 -- a bool's byte is its flag

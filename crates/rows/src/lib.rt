@@ -1,7 +1,7 @@
 // A record as a row of numbers, and back. Nothing is cut: a row that has a number past the range of its field is no record.
 use phases::Phase;
-use record::Live;
 use record::Record;
+use tickets::Live;
 ghost use mathlib.Core.Path.{_≡_};
 ghost use Rattle.rows.specs.Rows.{rowOf, inRanges, liveOf, recordOf};
 

@@ -1,8 +1,8 @@
 -- That what a status call says determines its answer. Assumes nothing.
 use mathlib.Core.Path.{_≡_, refl, sym, _∙_, ap}
-use Rattle.record.specs.Classes.{Class}
-use Rattle.record.specs.Classes.Class.{performed, refusal, stepping}
-use Rattle.record.specs.Answers.{Said}
+use Rattle.answers.specs.Classes.{Class}
+use Rattle.answers.specs.Classes.Class.{performed, refusal, stepping}
+use Rattle.answers.specs.Answers.{Said}
 use Rattle.status.specs.Status.{saysMarked}
 use Rattle.status.specs.declared.Marked.{Marked}
 use Rattle.status.specs.declared.Marked.the-variants as M

@@ -5,9 +5,9 @@ use mathlib.Core.List.{List, []}
 use lib.Dec.{eqb, leb, ltb}
 use lib.ListN.{length, getD, set}
 use Rattle.choice.specs.Pick.{pick, _and_, _or_}
-use Rattle.record.specs.Classes.Class.{performed, refusal}
-use Rattle.record.specs.Answers.{Said, said}
-use Rattle.record.specs.declared.Refusal.the-variants.{BadArea, Damaged, NoStatus}
+use Rattle.answers.specs.Classes.Class.{performed, refusal}
+use Rattle.answers.specs.Answers.{Said, said}
+use Rattle.answers.specs.declared.Refusal.the-variants.{BadArea, Damaged, NoStatus}
 use Rattle.status.specs.declared.Marked.{Marked}
 use Rattle.status.specs.declared.Marked.the-variants as M
 use Rattle.status.specs.declared.Entry.{Entry}

@@ -1,5 +1,5 @@
 // The status part: link, initialize and cancel, over lent group bytes and status bytes. The index is the id.
-use record::Refusal;
+use answers::Refusal;
 ghost use Prim.Native.Nat.{_+_, _≤_};
 ghost use mathlib.Core.Path.{_≡_};
 ghost use mathlib.Core.Bool.{false};

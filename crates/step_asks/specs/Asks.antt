@@ -6,15 +6,15 @@ use mathlib.Core.List.{List, [], _∷_}
 use lib.Dec.{eqb, leb, ltb}
 use Rattle.choice.specs.Pick.{pick, _and_, _or_}
 use Rattle.phases.specs.Phases.{none, remove, updates, ready, undo, recoverRemove, recovered}
-use Rattle.record.specs.Live.{number}
+use Rattle.tickets.specs.Live.{number}
 use Rattle.record.specs.Fields.{top, withTicket, withPlace, withBatch, spent, adopting}
 use Rattle.record.specs.Answers.{Told, answer}
-use Rattle.wholeness.specs.Gates.{gateOf, gated, Bar, _whenever_, barring}
+use Rattle.gates.specs.Gates.{gateOf, gated, Bar, _whenever_, barring}
 use Rattle.record.specs.declared.Record.{Record}
-use Rattle.record.specs.declared.Live.{Live}
-use Rattle.record.specs.declared.Live.the-variants.{Structure, Update, Rollback}
-use Rattle.record.specs.declared.Answer.the-variants.{Ticket, Finished}
-use Rattle.record.specs.declared.Refusal.the-variants.{NotReady, Recovering, Worn}
+use Rattle.tickets.specs.declared.Live.{Live}
+use Rattle.tickets.specs.declared.Live.the-variants.{Structure, Update, Rollback}
+use Rattle.answers.specs.declared.Answer.the-variants.{Ticket, Finished}
+use Rattle.answers.specs.declared.Refusal.the-variants.{NotReady, Recovering, Worn}
 
 -- "or a ticket: serial plus one, live. Ticket carries it and the phase or the action's number."
 abbrev pub issued : Live → ℕ → Record → Told

@@ -1,12 +1,12 @@
 // The asks, as steps on the record alone: whether work is due, and a ticket for it. Asking counts as starting.
+use answers::Answer;
+use answers::Refusal;
+use gates::Gate;
 use phases::Phase;
-use record::Answer;
 use record::Findings;
-use record::Live;
 use record::Record;
-use record::Refusal;
 use record::Stepped;
-use wholeness::Gate;
+use tickets::Live;
 ghost use mathlib.Core.Path.{_≡_};
 ghost use Rattle.record.specs.Answers.{tells};
 ghost use Rattle.step_asks.specs.Asks.{issued, askStructureStep, askUpdateStep, askRollbackStep, turned};
@@ -27,7 +27,7 @@ pub fn ask_structure(r: Record, found: Findings) -> Stepped
     ensures { λ s. ⌜ tells s ≡ askStructureStep (found .sized) (found .sound) r ⌝ }
 {
     let p = r.phase.number;
-    let gate = wholeness::admit(r, found).bar(
+    let gate = gates::admit(r, found).bar(
         (p == Phase::NONE) | (p == Phase::UPDATES) | (p == Phase::UNDO),
         Refusal::NotReady,
     );
@@ -48,7 +48,7 @@ pub fn ask_update(r: Record, found: Findings) -> Stepped
     ensures { λ s. ⌜ tells s ≡ askUpdateStep (found .sized) (found .sound) r ⌝ }
 {
     let p = r.phase.number;
-    let gate = wholeness::admit(r, found).bar(
+    let gate = gates::admit(r, found).bar(
         !((p == Phase::NONE) | (p == Phase::UPDATES)) | r.restoring,
         Refusal::Recovering,
     );
@@ -83,7 +83,7 @@ fn turned(r: Record, to: u8) -> Record
 pub fn ask_rollback(r: Record, found: Findings) -> Stepped
     ensures { λ s. ⌜ tells s ≡ askRollbackStep (found .sized) (found .sound) r ⌝ }
 {
-    let gate = wholeness::admit(r, found);
+    let gate = gates::admit(r, found);
     if let Gate::Shut(why) = gate {
         return r.refuse(why);
     }

@@ -9,12 +9,12 @@ use Rattle.batch.specs.Batch.{limit}
 use Rattle.record.specs.Fields.{top}
 use Rattle.record.specs.Fields.{withPlace, withBatch, withStaged, withLengths, spent}
 use Rattle.record.specs.Answers.{Told, answer}
-use Rattle.wholeness.specs.Gates.{gateOf, gated, Bar, _whenever_, barring, longPayloads}
+use Rattle.gates.specs.Gates.{gateOf, gated, Bar, _whenever_, barring, longPayloads}
 use Rattle.record.specs.declared.Record.{Record}
 use Rattle.record.specs.declared.Beginning.{Beginning}
-use Rattle.record.specs.declared.Answer.the-variants.{Done}
-use Rattle.record.specs.declared.Was.the-variants.{Nothing}
-use Rattle.record.specs.declared.Refusal.the-variants.{Pending, Idle, Capacity, TooMany}
+use Rattle.answers.specs.declared.Answer.the-variants.{Done}
+use Rattle.answers.specs.declared.Was.the-variants.{Nothing}
+use Rattle.answers.specs.declared.Refusal.the-variants.{Pending, Idle, Capacity, TooMany}
 
 -- "phase 0, or 1 for structural"
 unfoldable pub firstPhase : Bool → ℕ

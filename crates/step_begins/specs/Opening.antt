@@ -6,11 +6,11 @@ use Rattle.record.specs.Answers.{Told, answer}
 use Rattle.record.specs.Given.{start}
 unfoldable pub use Rattle.record.specs.Given.{opening}
 use Rattle.record.specs.declared.Opening.{Opening}
-use Rattle.wholeness.specs.Gates.{Bar, _whenever_, barring, longSnapshot}
+use Rattle.gates.specs.Gates.{Bar, _whenever_, barring, longSnapshot}
 use Rattle.record.specs.declared.Record.{Record}
-use Rattle.record.specs.declared.Answer.the-variants.{Done}
-use Rattle.record.specs.declared.Was.the-variants.{Nothing}
-use Rattle.record.specs.declared.Refusal.the-variants.{BadArea}
+use Rattle.answers.specs.declared.Answer.the-variants.{Done}
+use Rattle.answers.specs.declared.Was.the-variants.{Nothing}
+use Rattle.answers.specs.declared.Refusal.the-variants.{BadArea}
 
 -- "the record of an opening at 0, 0 with an empty payload"
 abbrev pub unopened : Record

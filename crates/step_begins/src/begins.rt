@@ -1,20 +1,20 @@
 // Beginning a transaction, and editing what is staged.
+use answers::Answer;
+use answers::Refusal;
+use answers::Was;
+use gates::Gate;
 use phases::Phase;
-use record::Answer;
 use record::Beginning;
 use record::Findings;
-use record::Live;
 use record::Record;
-use record::Refusal;
 use record::Stepped;
-use record::Was;
-use wholeness::Gate;
+use tickets::Live;
 ghost use mathlib.Core.Path.{_≡_};
 ghost use Prim.Native.Nat.{_≤_};
 ghost use Rattle.batch.specs.Batch.{limit};
 ghost use Rattle.record.specs.Answers.{tells};
 ghost use Rattle.step_begins.specs.Beginning.{firstPhase, begun, beginBars, beginStep, editBars, editStep};
-ghost use Rattle.wholeness.specs.Gates.{gateOf, through};
+ghost use Rattle.gates.specs.Gates.{gateOf, through};
 
 // A staged record in a first phase, with every count 0 but the entries.
 fn begun(mut r: Record, phase: u8, given: Beginning) -> Record
@@ -49,7 +49,7 @@ fn first_phase(structural: bool) -> u8
 fn begin_gate(r: Record, found: Findings, given: Beginning) -> Gate
     ensures { λ g. ⌜ g ≡ through (gateOf (found .sized) (found .sound) r) (beginBars r given) ⌝ }
 {
-    wholeness::admit(r, found)
+    gates::admit(r, found)
         .bar(r.staged, Refusal::Pending)
         .bar(r.revision == record::MAX, Refusal::Capacity)
         .bar_payloads(given.candidate, given.recovery)
@@ -72,7 +72,7 @@ pub fn begin(r: Record, found: Findings, structural: bool, given: Beginning) -> 
 fn edit_gate(r: Record, found: Findings, candidate: usize, recovery: usize) -> Gate
     ensures { λ g. ⌜ g ≡ through (gateOf (found .sized) (found .sound) r) (editBars r candidate recovery) ⌝ }
 {
-    wholeness::admit(r, found)
+    gates::admit(r, found)
         .bar(!r.staged, Refusal::Idle)
         .bar_payloads(candidate, recovery)
 }

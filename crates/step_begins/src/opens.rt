@@ -1,11 +1,11 @@
 // Opening: the first record of a chain.
-use record::Answer;
+use answers::Answer;
+use answers::Refusal;
+use answers::Was;
+use gates::Gate;
 use record::Opening;
 use record::Record;
-use record::Refusal;
 use record::Stepped;
-use record::Was;
-use wholeness::Gate;
 ghost use mathlib.Core.Path.{_≡_};
 ghost use Rattle.record.specs.Answers.{tells};
 ghost use Rattle.step_begins.specs.Opening.{unopened, openStep};

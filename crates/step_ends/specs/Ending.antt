@@ -10,11 +10,11 @@ use Rattle.record.specs.Fields.{withLengths}
 use Rattle.record.specs.Given.{opening, standing}
 use Rattle.record.specs.declared.Opening.{Opening}
 use Rattle.record.specs.Answers.{Told, answer}
-use Rattle.wholeness.specs.Gates.{gateOf, gated, Bar, _whenever_, barring, longSnapshot}
+use Rattle.gates.specs.Gates.{gateOf, gated, Bar, _whenever_, barring, longSnapshot}
 use Rattle.record.specs.declared.Record.{Record}
-use Rattle.record.specs.declared.Answer.the-variants.{Done}
-use Rattle.record.specs.declared.Was.the-variants.{One, Three}
-use Rattle.record.specs.declared.Refusal.the-variants.{Pending, Idle, NotReady}
+use Rattle.answers.specs.declared.Answer.the-variants.{Done}
+use Rattle.answers.specs.declared.Was.the-variants.{One, Three}
+use Rattle.answers.specs.declared.Refusal.the-variants.{Pending, Idle, NotReady}
 
 -- "Commit: 2; 4 if not complete or phase not 0 or 7."
 abbrev pub commitBars : Record → List Bar

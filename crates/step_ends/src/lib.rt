@@ -1,26 +1,26 @@
 // Ending a transaction: commit, the two recoveries; and refresh, which replaces the accepted payload while nothing is staged.
+use answers::Answer;
+use answers::Refusal;
+use answers::Was;
+use gates::Gate;
 use phases::Phase;
-use record::Answer;
 use record::Findings;
 use record::Opening;
 use record::Record;
-use record::Refusal;
 use record::Stepped;
-use record::Was;
-use wholeness::Gate;
 ghost use mathlib.Core.List.{[]};
 ghost use mathlib.Core.Path.{_≡_};
 ghost use Rattle.record.specs.Answers.{tells};
 ghost use Rattle.step_ends.specs.Ending.{unrestored, recoveredTo, commitBars, recoverBars, refreshBars};
 ghost use Rattle.step_ends.specs.Ending.{commitStep, recoverStep, recoverRetainedStep, refreshStep};
-ghost use Rattle.wholeness.specs.Gates.{gateOf, gated, through};
+ghost use Rattle.gates.specs.Gates.{gateOf, gated, through};
 
 // The refusals of a commit, in their order.
 fn commit_gate(r: Record, found: Findings) -> Gate
     ensures { λ g. ⌜ g ≡ through (gateOf (found .sized) (found .sound) r) (commitBars r) ⌝ }
 {
     let p = r.phase.number;
-    wholeness::admit(r, found).bar(!r.staged, Refusal::Idle).bar(
+    gates::admit(r, found).bar(!r.staged, Refusal::Idle).bar(
         !wholeness::complete(r) | !((p == Phase::NONE) | (p == Phase::READY)),
         Refusal::NotReady,
     )
@@ -53,7 +53,7 @@ fn unrestored(r: Record) -> bool
 fn recover_gate(r: Record, found: Findings) -> Gate
     ensures { λ g. ⌜ g ≡ through (gateOf (found .sized) (found .sound) r) (recoverBars r []) ⌝ }
 {
-    wholeness::admit(r, found)
+    gates::admit(r, found)
         .bar(!r.staged, Refusal::Idle)
         .bar(unrestored(r), Refusal::NotReady)
 }
@@ -87,7 +87,7 @@ pub fn recover_retained(r: Record, found: Findings) -> Stepped
 fn refresh_gate(r: Record, found: Findings, length: usize) -> Gate
     ensures { λ g. ⌜ g ≡ through (gateOf (found .sized) (found .sound) r) (refreshBars r length) ⌝ }
 {
-    wholeness::admit(r, found)
+    gates::admit(r, found)
         .bar(r.staged, Refusal::Pending)
         .bar_snapshot(length)
 }

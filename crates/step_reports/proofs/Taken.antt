@@ -7,16 +7,17 @@ use mathlib.Core.List.{List}
 use native.Mathlib.Omega.{arith}
 use Rattle.choice.proofs.Tests.{never}
 use Rattle.batch.specs.Batch.{limit}
-use Rattle.record.specs.Live.{isLive, rollback}
+use Rattle.tickets.specs.Live.{isLive, rollback}
 use Rattle.record.specs.Answers.{Told}
 use Rattle.record.specs.Given.{Effect}
 use Rattle.record.specs.declared.Record.{Record}
-use Rattle.record.specs.declared.Refusal.the-variants.{Stale}
-use Rattle.wholeness.specs.Gates.{gateOf, Bar, through}
-use Rattle.wholeness.specs.declared.Gate.{Gate}
-use Rattle.wholeness.specs.declared.Gate.the-variants.{Open}
-use Rattle.wholeness.proofs.Facts.{Parts, behind, counts-of, forward-small, back-small, live-rollback, restoring-all}
-use Rattle.wholeness.proofs.Passing.{Clear, clear, fails}
+use Rattle.answers.specs.declared.Refusal.the-variants.{Stale}
+use Rattle.gates.specs.Gates.{gateOf, Bar, through}
+use Rattle.gates.specs.declared.Gate.{Gate}
+use Rattle.gates.specs.declared.Gate.the-variants.{Open}
+use Rattle.wholeness.proofs.Facts.{Parts, counts-of, forward-small, back-small, live-rollback, restoring-all}
+use Rattle.gates.proofs.Behind.{behind}
+use Rattle.gates.proofs.Passing.{Clear, clear, fails}
 use Rattle.step_reports.specs.Reports.{reported, reportRollbackBars}
 
 holds : {b : Bool} → not b ≡ false → b ≡ true

@@ -8,7 +8,7 @@ use Rattle.phases.specs.declared.Next.the-variants.{To, Nowhere}
 use Rattle.record.specs.Fields.{withPlace, withBatch, adopting}
 use Rattle.record.specs.Answers.{Told, answer}
 use Rattle.record.specs.declared.Record.{Record}
-use Rattle.record.specs.declared.Answer.the-variants.{More, Finished}
+use Rattle.answers.specs.declared.Answer.the-variants.{More, Finished}
 
 -- "Done goes to the successor, raises forward (phases 1 to 6) or back (9 to 12)"; a live structure ticket has a phase with one
 unfoldable pub onward : Next → Record → Record

@@ -3,15 +3,15 @@
 use Prim.Native.Nat.{ℕ}
 use mathlib.Core.Bool.{Bool, not}
 use mathlib.Core.List.{List, [], _∷_}
-use Rattle.record.specs.Live.{isLive, structure, update, rollback}
+use Rattle.tickets.specs.Live.{isLive, structure, update, rollback}
 use Rattle.record.specs.Fields.{withLengths, spent}
 use Rattle.record.specs.Answers.{Told, answer}
 use Rattle.record.specs.Given.{Effect, effectOf}
 use Rattle.record.specs.Given.Effect.{rests, works}
-use Rattle.wholeness.specs.Gates.{gateOf, gated, Bar, _whenever_, barring, longPayloads}
+use Rattle.gates.specs.Gates.{gateOf, gated, Bar, _whenever_, barring, longPayloads}
 use Rattle.record.specs.declared.Record.{Record}
 use Rattle.record.specs.declared.Outcome.{Outcome}
-use Rattle.record.specs.declared.Refusal.the-variants.{Stale}
+use Rattle.answers.specs.declared.Refusal.the-variants.{Stale}
 use Rattle.step_reports.specs.Done.{structureDone, updateDone, rollbackDone}
 
 -- "10": the ticket is not the live one of that kind

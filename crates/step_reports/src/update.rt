@@ -1,13 +1,13 @@
 // The report of an action's update.
 use super::report_gate;
 use super::reported;
-use record::Answer;
+use answers::Answer;
+use gates::Gate;
 use record::Findings;
-use record::Live;
 use record::Record;
 use record::Reporting;
 use record::Stepped;
-use wholeness::Gate;
+use tickets::Live;
 ghost use mathlib.Core.Path.{_≡_};
 ghost use Prim.Native.Nat.{_≤_};
 ghost use Rattle.batch.specs.Batch.{limit};

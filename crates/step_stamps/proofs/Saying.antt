@@ -5,9 +5,9 @@ use mathlib.Core.List.{List}
 use lib.Dec.{eqb}
 use lib.ListN.{getD}
 use Rattle.choice.specs.Pick.{pick}
-use Rattle.record.specs.Classes.{Class}
-use Rattle.record.specs.Classes.Class.{performed, refusal, stepping}
-use Rattle.record.specs.Answers.{Said}
+use Rattle.answers.specs.Classes.{Class}
+use Rattle.answers.specs.Classes.Class.{performed, refusal, stepping}
+use Rattle.answers.specs.Answers.{Said}
 use Rattle.step_stamps.specs.Stamping.{saysStamping, saysChecked}
 use Rattle.step_stamps.specs.declared.Stamping.{Stamping}
 use Rattle.step_stamps.specs.declared.Stamping.the-variants as S

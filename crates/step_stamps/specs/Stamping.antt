@@ -5,10 +5,10 @@ use mathlib.Core.List.{[], _∷_}
 use lib.Dec.{eqb}
 use Rattle.choice.specs.Pick.{pick, _and_}
 use Rattle.wholeness.specs.Whole.{whole}
-use Rattle.record.specs.Classes.Class.{performed, refusal}
-use Rattle.record.specs.Answers.{Said, said}
+use Rattle.answers.specs.Classes.Class.{performed, refusal}
+use Rattle.answers.specs.Answers.{Said, said}
 use Rattle.record.specs.declared.Record.{Record}
-use Rattle.record.specs.declared.Refusal.the-variants as why
+use Rattle.answers.specs.declared.Refusal.the-variants as why
 use Rattle.step_stamps.specs.declared.SaveStamp.{SaveStamp}
 use Rattle.step_stamps.specs.declared.Stamping.{Stamping}
 use Rattle.step_stamps.specs.declared.Stamping.the-variants as S

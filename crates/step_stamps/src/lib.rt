@@ -1,6 +1,6 @@
 // Stamps: a plan reviewed at one revision must not be saved over another.
+use answers::Refusal;
 use record::Record;
-use record::Refusal;
 ghost use mathlib.Core.Path.{_≡_};
 ghost use Rattle.step_stamps.specs.Stamping.{saysStamping, saysChecked, stampStep, checkStep};
 

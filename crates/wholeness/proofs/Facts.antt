@@ -8,14 +8,10 @@ use Rattle.choice.proofs.Tests.{both, either, follows, tests}
 use Rattle.phases.specs.Phases.{hasSuccessor, recovered}
 use Rattle.batch.specs.Batch.{limit}
 use Rattle.record.specs.Fields.{top}
-use Rattle.record.specs.Live.{isLive, structure, update, rollback}
+use Rattle.tickets.specs.Live.{isLive, structure, update, rollback}
 use Rattle.wholeness.specs.Whole.{whole, lengthsFit, countsFit, stagedFits, forwardFits, backFits, restoringFits, liveFits}
-use Rattle.wholeness.specs.Gates.{gateOf}
 use Rattle.record.specs.declared.Record.{Record}
-use Rattle.wholeness.specs.declared.Gate.{Gate}
-use Rattle.wholeness.specs.declared.Gate.the-variants.{Open}
-use Rattle.record.specs.declared.Live.{Live}
-use Rattle.wholeness.proofs.Passing.{passed}
+use Rattle.tickets.specs.declared.Live.{Live}
 
 -- the eight tests, by name
 pub record Parts (r : Record) : Type 0 where
@@ -40,10 +36,6 @@ parts h =
     let l = both (s .0) in
     record { lengths = l .0; counts = l .1; staging = s .1; phase = p .1; forward = f .1; back = b .1; restoring = w .1; live = v .1 }
 
--- behind an open gate
-pub behind : {g : Gate} (sized sound : Bool) (r : Record) → g ≡ gateOf sized sound r → g ≡ Open → Parts r
-behind sized sound r e h = parts (passed sized sound r e h .is-whole)
-
 pub record Counts (n a k : ℕ) : Type 0 where
   pub few : n ≤ limit
   pub order : a ≤ k
@@ -57,9 +49,6 @@ counts-of n a k h =
     let y = both (x .0) in
     let z = both (y .0) in
     record { few = omega tests; order = omega tests; near = omega tests; inside = omega tests }
-
-pub counts-behind : {g : Gate} (sized sound : Bool) (r : Record) → g ≡ gateOf sized sound r → g ≡ Open → Counts (r .entries) (r .applied) (r .attempted)
-counts-behind sized sound r e h = counts-of _ _ _ (behind sized sound r e h .counts)
 
 -- no count of structure reports is over 5, and none of the way back over 4
 pub forward-small : (p f : ℕ) → forwardFits p f ≡ true → f ≤ 5

@@ -8,9 +8,9 @@ use Rattle.phases.specs.Phases.{none, remove, settleRemoved, mount, settleMount
 use Rattle.areas.specs.Areas.{areaSize}
 use Rattle.batch.specs.Batch.{limit}
 use Rattle.record.specs.declared.Record.{Record}
-use Rattle.record.specs.declared.Live.{Live}
+use Rattle.tickets.specs.declared.Live.{Live}
 use Rattle.record.specs.Fields.{top}
-use Rattle.record.specs.Live.{workOf, number, noTicket, structure, update, rollback}
+use Rattle.tickets.specs.Live.{workOf, number, noTicket, structure, update, rollback}
 
 -- "lengths are at most 4,096"
 unfoldable pub lengthsFit : ℕ → ℕ → ℕ → Bool

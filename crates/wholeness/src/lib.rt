@@ -1,54 +1,12 @@
-// When a record is whole, and when it is complete; and the refusals that every call begins with.
+// When a record is whole, and when it is complete.
 use phases::Phase;
-use record::Findings;
-use record::Live;
 use record::MAX;
 use record::Record;
-use record::Refusal;
+use tickets::Live;
 ghost use mathlib.Core.Path.{_≡_};
 ghost use Rattle.wholeness.specs.Whole.{lengthsFit, countsFit, stagedFits, forwardFits, backFits, restoringFits, liveFits, whole, complete};
 ghost use Prim.Native.Nat.{_+_};
 ghost use lib.Dec.{eqb};
-ghost use mathlib.Core.List.{[]};
-ghost use Rattle.wholeness.specs.Gates.{gateOf, barred, through, longPayloads, longSnapshot};
-
-// Whether a call goes on, or is refused.
-pub enum Gate {
-    Open,
-    Shut(Refusal),
-}
-
-impl Gate {
-    // The next refusal in a row: given where its test holds and no earlier one was.
-    pub fn bar(self, test: bool, why: Refusal) -> Gate
-        ensures { λ g. ⌜ g ≡ barred self test why ⌝ }
-    {
-        if let Gate::Shut(first) = self {
-            return Gate::Shut(first);
-        }
-        if test {
-            return Gate::Shut(why);
-        }
-        Gate::Open
-    }
-
-    // A candidate or recovery payload that is too long.
-    pub fn bar_payloads(self, candidate: usize, recovery: usize) -> Gate
-        ensures { λ g. ⌜ g ≡ through self (longPayloads candidate recovery []) ⌝ }
-    {
-        self.bar(
-            (areas::SIZE < candidate) | (areas::SIZE < recovery),
-            Refusal::TooLong,
-        )
-    }
-
-    // A snapshot that is too long.
-    pub fn bar_snapshot(self, length: usize) -> Gate
-        ensures { λ g. ⌜ g ≡ through self (longSnapshot length []) ⌝ }
-    {
-        self.bar(areas::SIZE < length, Refusal::TooLong)
-    }
-}
 
 fn lengths_fit(r: Record) -> bool
     ensures { λ b. ⌜ b ≡ lengthsFit (r .accepted) (r .candidate) (r .recovery) ⌝ }
@@ -159,18 +117,4 @@ pub fn complete(r: Record) -> bool
     ensures { λ b. ⌜ b ≡ complete r ⌝ }
 {
     !r.restoring & (r.applied == r.entries)
-}
-
-// The refusals that every call begins with, in their order.
-pub fn admit(r: Record, found: Findings) -> Gate
-    ensures { λ g. ⌜ g ≡ gateOf (found .sized) (found .sound) r ⌝ }
-{
-    if !found.sized {
-        return Gate::Shut(Refusal::BadArea);
-    }
-    if found.sound & whole(r) {
-        Gate::Open
-    } else {
-        Gate::Shut(Refusal::Damaged)
-    }
 }

@@ -3,8 +3,8 @@ use mathlib.Core.List.{[]}
 use mathlib.Core.Path.{refl, ap, sym}
 use lib.Seq.{set-out}
 use Rattle.choice.proofs.Picks.{yes, no}
-use Rattle.record.specs.Classes.Class.{performed}
-use Rattle.record.specs.Answers.{said}
+use Rattle.answers.specs.Classes.Class.{performed}
+use Rattle.answers.specs.Answers.{said}
 use Rattle.status.specs.Status.{leavesMarks, put}
 use borrow.Author.Needs.{needs}
 use Rattle.status.proofs.put.Statement.{statement}

@@ -10,9 +10,9 @@ use Rattle.choice.proofs.Picks.{yes, no}
 use Rattle.choice.proofs.Tests.{never, tests}
 use Rattle.record.specs.Fields.{top, withTicket}
 use Rattle.record.specs.Answers.{answer}
-use Rattle.record.specs.declared.Answer.the-variants.{Finished}
-use Rattle.record.specs.declared.Live.the-variants.{None, Rollback}
-use Rattle.wholeness.proofs.Passing.{shut, opened}
+use Rattle.answers.specs.declared.Answer.the-variants.{Finished}
+use Rattle.tickets.specs.declared.Live.the-variants.{None, Rollback}
+use Rattle.gates.proofs.Passing.{shut, opened}
 use Rattle.step_asks.specs.Asks.{askRollbackOwn, turned, issued}
 use borrow.Author.Needs.{needs}
 use Rattle.step_asks.proofs.ask_rollback.Statement.{statement}

@@ -2,7 +2,7 @@
 use borrow.Author.Tests.{eq-eqb, ne-eqb}
 use Rattle.choice.specs.Pick.{_or_}
 use Rattle.choice.proofs.Picks.{yes, no}
-use Rattle.wholeness.proofs.Passing.{next, barred-out, let-in}
+use Rattle.gates.proofs.Passing.{next, barred-out, let-in}
 use Rattle.step_asks.specs.Asks.{askStructureBars, askStructureOwn}
 use borrow.Author.Needs.{needs}
 use Rattle.step_asks.proofs.ask_structure.Statement.{statement}

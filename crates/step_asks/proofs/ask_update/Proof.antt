@@ -5,9 +5,9 @@ use borrow.Author.Tests.{eq-eqb, ne-eqb}
 use Rattle.choice.specs.Pick.{_or_}
 use Rattle.choice.proofs.Picks.{yes, no}
 use Rattle.record.specs.Answers.{answer}
-use Rattle.record.specs.declared.Answer.the-variants.{Finished}
-use Rattle.wholeness.proofs.Passing.{next, barred-out, let-in, clear}
-use Rattle.wholeness.proofs.Facts.{counts-behind}
+use Rattle.answers.specs.declared.Answer.the-variants.{Finished}
+use Rattle.gates.proofs.Passing.{next, barred-out, let-in, clear}
+use Rattle.gates.proofs.Behind.{counts-behind}
 use Rattle.step_asks.specs.Asks.{askUpdateBars, askUpdateOwn}
 use borrow.Author.Needs.{needs}
 use Rattle.step_asks.proofs.ask_update.Statement.{statement}

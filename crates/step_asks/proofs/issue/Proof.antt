@@ -3,7 +3,7 @@ use mathlib.Core.Path.{_∙_, ap}
 use Prim.Native.Nat.{ℕ}
 use Rattle.record.specs.Fields.{withTicket}
 use Rattle.record.specs.Answers.{answer}
-use Rattle.record.specs.declared.Answer.the-variants.{Ticket}
+use Rattle.answers.specs.declared.Answer.the-variants.{Ticket}
 use borrow.Author.Needs.{needs}
 use Rattle.step_asks.proofs.issue.Statement.{statement}
 use Rattle.step_asks.proofs.issue.Tie as tie

@@ -2,9 +2,10 @@
 use mathlib.Core.Path.{refl, sym, _∙_}
 use native.Mathlib.Omega.{arith}
 use borrow.Author.Tests.{not-false}
-use Rattle.record.specs.declared.Refusal.the-variants.{Idle}
-use Rattle.wholeness.proofs.Passing.{barred-out, let-in, clear, fails}
-use Rattle.wholeness.proofs.Facts.{behind, staged-room}
+use Rattle.answers.specs.declared.Refusal.the-variants.{Idle}
+use Rattle.gates.proofs.Passing.{barred-out, let-in, clear, fails}
+use Rattle.wholeness.proofs.Facts.{staged-room}
+use Rattle.gates.proofs.Behind.{behind}
 use Rattle.step_ends.specs.Ending.{commitBars, commitOwn}
 use borrow.Author.Needs.{needs}
 use Rattle.step_ends.proofs.commit.Statement.{statement}

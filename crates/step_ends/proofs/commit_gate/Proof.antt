@@ -1,6 +1,6 @@
 -- `step_ends::commit_gate` meets its contract. Assumes nothing.
 use Rattle.choice.specs.Pick.{_or_}
-use Rattle.wholeness.proofs.Passing.{next}
+use Rattle.gates.proofs.Passing.{next}
 use borrow.Author.Needs.{needs}
 use Rattle.step_ends.proofs.commit_gate.Statement.{statement}
 use Rattle.step_ends.proofs.commit_gate.Tie as tie

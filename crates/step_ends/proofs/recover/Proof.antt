@@ -1,7 +1,7 @@
 -- `step_ends::recover` meets its contract: the gate of both recoveries, with the length behind it. Assumes nothing.
 use mathlib.Core.List.{[]}
-use Rattle.wholeness.specs.Gates.{longSnapshot}
-use Rattle.wholeness.proofs.Passing.{next-row, handed}
+use Rattle.gates.specs.Gates.{longSnapshot}
+use Rattle.gates.proofs.Passing.{next-row, handed}
 use Rattle.step_ends.specs.Ending.{recoverBars, recoverOwn}
 use borrow.Author.Needs.{needs}
 use Rattle.step_ends.proofs.recover.Statement.{statement}

@@ -1,6 +1,6 @@
 -- `step_ends::recover_retained` meets its contract: the gate of both recoveries. Assumes nothing.
 use mathlib.Core.List.{[]}
-use Rattle.wholeness.proofs.Passing.{handed}
+use Rattle.gates.proofs.Passing.{handed}
 use Rattle.step_ends.specs.Ending.{recoverBars, recoverRetainedOwn}
 use borrow.Author.Needs.{needs}
 use Rattle.step_ends.proofs.recover_retained.Statement.{statement}

@@ -1,6 +1,6 @@
 -- `step_ends::recovered` meets its contract. Assumes nothing.
 use mathlib.Core.Path.{refl}
-use Rattle.wholeness.proofs.Passing.{shut, opened}
+use Rattle.gates.proofs.Passing.{shut, opened}
 use borrow.Author.Needs.{needs}
 use Rattle.step_ends.proofs.recovered.Statement.{statement}
 use Rattle.step_ends.proofs.recovered.Tie as tie

@@ -1,5 +1,5 @@
 -- `step_ends::refresh` meets its contract. Assumes nothing.
-use Rattle.wholeness.proofs.Passing.{barred-out, let-in}
+use Rattle.gates.proofs.Passing.{barred-out, let-in}
 use Rattle.step_ends.specs.Ending.{refreshBars, refreshOwn}
 use borrow.Author.Needs.{needs}
 use Rattle.step_ends.proofs.refresh.Statement.{statement}

@@ -1,7 +1,7 @@
 -- `step_ends::refresh_gate` meets its contract. Assumes nothing.
 use mathlib.Core.List.{[]}
-use Rattle.wholeness.specs.Gates.{longSnapshot}
-use Rattle.wholeness.proofs.Passing.{next, next-row}
+use Rattle.gates.specs.Gates.{longSnapshot}
+use Rattle.gates.proofs.Passing.{next, next-row}
 use borrow.Author.Needs.{needs}
 use Rattle.step_ends.proofs.refresh_gate.Statement.{statement}
 use Rattle.step_ends.proofs.refresh_gate.Tie as tie

@@ -1,6 +1,7 @@
 -- `transaction::check` meets its contract: it is the check's own step, and the record is the given one. Assumes nothing.
 use mathlib.Core.Path.{ap}
-use Rattle.record.specs.Answers.{Said, told}
+use Rattle.answers.specs.Answers.{Said}
+use Rattle.record.specs.Answers.{told}
 use borrow.Author.Needs.{needs}
 use Rattle.transaction.proofs.check.Statement.{statement}
 use Rattle.transaction.proofs.check.Tie as tie

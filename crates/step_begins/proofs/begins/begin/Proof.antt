@@ -3,10 +3,10 @@ use Prim.Native.Nat.{ℕ}
 use mathlib.Core.Path.{sym, _∙_, ap}
 use Rattle.choice.proofs.Tests.{tests}
 use Rattle.record.specs.Answers.{answer}
-use Rattle.record.specs.declared.Answer.the-variants.{Done}
-use Rattle.record.specs.declared.Was.the-variants.{Nothing}
-use Rattle.record.specs.declared.Refusal.the-variants.{TooMany}
-use Rattle.wholeness.proofs.Passing.{barred-out, let-in, clear, fails}
+use Rattle.answers.specs.declared.Answer.the-variants.{Done}
+use Rattle.answers.specs.declared.Was.the-variants.{Nothing}
+use Rattle.answers.specs.declared.Refusal.the-variants.{TooMany}
+use Rattle.gates.proofs.Passing.{barred-out, let-in, clear, fails}
 use Rattle.step_begins.specs.Beginning.{begun, beginBars, beginOwn}
 use borrow.Author.Needs.{needs}
 use Rattle.step_begins.proofs.begins.begin.Statement.{statement}

@@ -1,8 +1,8 @@
 -- `step_begins::begins::begin_gate` meets its contract. Assumes nothing.
 use mathlib.Core.List.{[]}
 use Rattle.choice.specs.Pick.{_or_}
-use Rattle.wholeness.specs.Gates.{longPayloads}
-use Rattle.wholeness.proofs.Passing.{next, next-row}
+use Rattle.gates.specs.Gates.{longPayloads}
+use Rattle.gates.proofs.Passing.{next, next-row}
 use borrow.Author.Needs.{needs}
 use Rattle.step_begins.proofs.begins.begin_gate.Statement.{statement}
 use Rattle.step_begins.proofs.begins.begin_gate.Tie as tie

@@ -1,5 +1,5 @@
 -- `step_begins::begins::edit` meets its contract. Assumes nothing.
-use Rattle.wholeness.proofs.Passing.{barred-out, let-in}
+use Rattle.gates.proofs.Passing.{barred-out, let-in}
 use Rattle.step_begins.specs.Beginning.{editBars, editOwn}
 use borrow.Author.Needs.{needs}
 use Rattle.step_begins.proofs.begins.edit.Statement.{statement}

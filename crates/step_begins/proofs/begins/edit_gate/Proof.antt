@@ -1,7 +1,7 @@
 -- `step_begins::begins::edit_gate` meets its contract. Assumes nothing.
 use mathlib.Core.List.{[]}
-use Rattle.wholeness.specs.Gates.{longPayloads}
-use Rattle.wholeness.proofs.Passing.{next, next-row}
+use Rattle.gates.specs.Gates.{longPayloads}
+use Rattle.gates.proofs.Passing.{next, next-row}
 use borrow.Author.Needs.{needs}
 use Rattle.step_begins.proofs.begins.edit_gate.Statement.{statement}
 use Rattle.step_begins.proofs.begins.edit_gate.Tie as tie

@@ -2,11 +2,11 @@
 use mathlib.Core.List.{[]}
 use mathlib.Core.Path.{_∙_, ap}
 use Rattle.record.specs.Answers.{answer, refuse}
-use Rattle.record.specs.declared.Answer.the-variants.{Done}
-use Rattle.record.specs.declared.Was.the-variants.{Nothing}
-use Rattle.wholeness.specs.Gates.{longSnapshot, gated}
-use Rattle.wholeness.specs.declared.Gate.the-variants.{Open}
-use Rattle.wholeness.proofs.Passing.{next-row, barred-out, let-in}
+use Rattle.answers.specs.declared.Answer.the-variants.{Done}
+use Rattle.answers.specs.declared.Was.the-variants.{Nothing}
+use Rattle.gates.specs.Gates.{longSnapshot, gated}
+use Rattle.gates.specs.declared.Gate.the-variants.{Open}
+use Rattle.gates.proofs.Passing.{next-row, barred-out, let-in}
 use Rattle.step_begins.specs.Opening.{unopened, openBars, openStep}
 use borrow.Author.Needs.{needs}
 use Rattle.step_begins.proofs.opens.open.Statement.{statement}

@@ -1,6 +1,6 @@
 -- `step_reports::rollback::report_rollback` meets its contract. Assumes nothing.
 use Rattle.record.specs.Given.{effectOf}
-use Rattle.wholeness.proofs.Passing.{barred-out, let-in}
+use Rattle.gates.proofs.Passing.{barred-out, let-in}
 use Rattle.step_reports.specs.Done.{rollbackDone}
 use Rattle.step_reports.specs.Reports.{reportRollbackBars, reportRollbackOwn}
 use Rattle.step_reports.proofs.Taken.{rollback-room, taking}

@@ -6,7 +6,7 @@ use borrow.Author.Tests.{eq-eqb, ne-eqb}
 use Rattle.record.specs.Fields.{withBatch}
 use Rattle.record.specs.Answers.{answer}
 use Rattle.record.specs.declared.Record.{Record}
-use Rattle.record.specs.declared.Answer.the-variants.{More, Finished}
+use Rattle.answers.specs.declared.Answer.the-variants.{More, Finished}
 use Rattle.step_reports.specs.Done.{leaving, rollbackDone}
 use borrow.Author.Needs.{needs}
 use Rattle.step_reports.proofs.rollback.rollback_done.Statement.{statement}

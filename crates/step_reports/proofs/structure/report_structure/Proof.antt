@@ -1,8 +1,8 @@
 -- `step_reports::structure::report_structure` meets its contract. Assumes nothing.
 use mathlib.Core.List.{[]}
 use Rattle.record.specs.Given.{effectOf}
-use Rattle.wholeness.specs.Gates.{longPayloads}
-use Rattle.wholeness.proofs.Passing.{next-row, barred-out, let-in}
+use Rattle.gates.specs.Gates.{longPayloads}
+use Rattle.gates.proofs.Passing.{next-row, barred-out, let-in}
 use Rattle.step_reports.specs.Done.{structureDone}
 use Rattle.step_reports.specs.Reports.{reportStructureBars, reportStructureOwn}
 use Rattle.step_reports.proofs.Taken.{structure-room, taking}

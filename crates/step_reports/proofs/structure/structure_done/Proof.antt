@@ -5,7 +5,7 @@ use Rattle.choice.proofs.Picks.{yes, no, told}
 use Rattle.phases.specs.Phases.{boundary}
 use Rattle.record.specs.Answers.{answer}
 use Rattle.record.specs.declared.Record.{Record}
-use Rattle.record.specs.declared.Answer.the-variants.{More, Finished}
+use Rattle.answers.specs.declared.Answer.the-variants.{More, Finished}
 use Rattle.step_reports.specs.Done.{structureDone}
 use borrow.Author.Needs.{needs}
 use Rattle.step_reports.proofs.structure.structure_done.Statement.{statement}

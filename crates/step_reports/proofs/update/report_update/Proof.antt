@@ -1,6 +1,6 @@
 -- `step_reports::update::report_update` meets its contract. Assumes nothing.
 use Rattle.record.specs.Given.{effectOf}
-use Rattle.wholeness.proofs.Passing.{barred-out, let-in}
+use Rattle.gates.proofs.Passing.{barred-out, let-in}
 use Rattle.step_reports.specs.Done.{updateDone}
 use Rattle.step_reports.specs.Reports.{reportUpdateBars, reportUpdateOwn}
 use Rattle.step_reports.proofs.Taken.{update-room, taking}

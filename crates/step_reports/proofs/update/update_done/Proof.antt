@@ -3,7 +3,7 @@ use mathlib.Core.Path.{_∙_, ap}
 use Rattle.choice.proofs.Picks.{yes, no}
 use borrow.Author.Tests.{eq-eqb, ne-eqb}
 use Rattle.record.specs.Answers.{answer}
-use Rattle.record.specs.declared.Answer.the-variants.{Finished}
+use Rattle.answers.specs.declared.Answer.the-variants.{Finished}
 use Rattle.step_reports.specs.Done.{updateDone}
 use borrow.Author.Needs.{needs}
 use Rattle.step_reports.proofs.update.update_done.Statement.{statement}
