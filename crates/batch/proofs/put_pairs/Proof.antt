@@ -9,4 +9,4 @@ unfolding pairsIn
 returns c = c .before .before .copy-words .ensures
 
 pub put-pairs-spec : {M : Type 1} → statement M
-put-pairs-spec = tie.close (tie.spec (search needs) (search needs) returns)
+put-pairs-spec = tie.close (tie.spec (λ c. search needs) (λ c. search needs) returns)

@@ -20,4 +20,4 @@ unfolding gateOf _and_
 returns-3 c = no _ (c .before .before .before .if1 .left) (no _ (rw (c .before .before .whole .ensures) at (c .if2 .left)) refl)
 
 pub admit-spec : {M : Type 1} → statement M
-admit-spec = tie.close (tie.spec returns (search needs) returns-2 returns-3)
+admit-spec = tie.close (tie.spec returns (λ c. search needs) returns-2 returns-3)

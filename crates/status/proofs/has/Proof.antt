@@ -10,4 +10,4 @@ unfolding has
 returns c = refl
 
 pub has-spec : {M : Type 1} → statement M
-has-spec = tie.close (tie.spec (search needs) returns)
+has-spec = tie.close (tie.spec (λ c. search needs) returns)

@@ -18,5 +18,5 @@ pub next-spec : {M : Type 1} → statement M
 unfolding has
 next-spec =
     tie.close
-    (tie.spec (search needs) (search needs) (λ c κs. (search needs, λ e. omega (tests, e))) (search needs)
+    (tie.spec (λ c. search needs) (λ c. search needs) (λ c κs. (search needs, λ e. omega (tests, e))) (λ c. search needs)
     (λ c κs. (search needs, λ e. omega (tests, e))) returns returns-2 returns-3)

@@ -23,4 +23,4 @@ unfolding put
 returns-3 c = no _ (c .before .if1 .left) (ap (leavesMarks (said performed [])) (sym (set-out _ _ _ (c .if2 .left))))
 
 pub put-spec : {M : Type 1} → statement M
-put-spec = tie.close (tie.spec returns (search needs) (search needs) returns-2 returns-3)
+put-spec = tie.close (tie.spec returns (λ c. search needs) (λ c. search needs) returns-2 returns-3)

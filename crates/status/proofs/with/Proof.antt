@@ -19,4 +19,4 @@ unfolding with
 returns-2 c = no _ (told (c .before .has .ensures) (c .if1 .left)) refl
 
 pub with-spec : {M : Type 1} → statement M
-with-spec = tie.close (tie.spec (search needs) add-result returns returns-2)
+with-spec = tie.close (tie.spec (λ c. search needs) add-result returns returns-2)

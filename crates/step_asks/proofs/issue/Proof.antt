@@ -17,4 +17,4 @@ returns c =
     ∙ ap (λ (n : ℕ). answer (Ticket n (a .item)) (withTicket n (a .live) (a .r))) (k .number .ensures)
 
 pub issue-spec : {M : Type 1} → statement M
-issue-spec = tie.close (tie.spec (search needs) (search needs) (search needs) returns)
+issue-spec = tie.close (tie.spec (λ c. search needs) (λ c. search needs) (λ c. search needs) returns)

@@ -12,4 +12,4 @@ returns c =
     next _ _ (rw (c .before .complete .ensures) at (c .bar2 .ensures)) (next _ _ (k .bar .ensures) (k .before .before .admit .ensures))
 
 pub commit-gate-spec : {M : Type 1} → statement M
-commit-gate-spec = tie.close (tie.spec (search needs) (search needs) (search needs) (search needs) returns)
+commit-gate-spec = tie.close (tie.spec (λ c. search needs) (λ c. search needs) (λ c. search needs) (λ c. search needs) returns)

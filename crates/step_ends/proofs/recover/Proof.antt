@@ -16,4 +16,4 @@ returns c =
     (c .recovered .ensures)
 
 pub recover-spec : {M : Type 1} → statement M
-recover-spec = tie.close (tie.spec (search needs) (search needs) (search needs) returns)
+recover-spec = tie.close (tie.spec (λ c. search needs) (λ c. search needs) (λ c. search needs) returns)

@@ -10,4 +10,4 @@ returns c =
     next _ _ (rw (c .before .unrestored .ensures) at (c .bar2 .ensures)) (next _ _ (k .bar .ensures) (k .before .before .admit .ensures))
 
 pub recover-gate-spec : {M : Type 1} → statement M
-recover-gate-spec = tie.close (tie.spec (search needs) (search needs) (search needs) (search needs) returns)
+recover-gate-spec = tie.close (tie.spec (λ c. search needs) (λ c. search needs) (λ c. search needs) (λ c. search needs) returns)

@@ -11,4 +11,4 @@ unfolding recoverRetainedOwn
 returns c = handed _ (recoverBars (c .before .before .args .r) []) (c .before .recover-gate .ensures) _ _ (c .recovered .ensures)
 
 pub recover-retained-spec : {M : Type 1} → statement M
-recover-retained-spec = tie.close (tie.spec (search needs) (search needs) returns)
+recover-retained-spec = tie.close (tie.spec (λ c. search needs) (λ c. search needs) returns)

@@ -10,4 +10,4 @@ returns : tie.Need-returns
 returns c = next-row (longSnapshot _ []) (c .bar-snapshot .ensures) (next _ _ (c .before .bar .ensures) (c .before .before .admit .ensures))
 
 pub refresh-gate-spec : {M : Type 1} → statement M
-refresh-gate-spec = tie.close (tie.spec (search needs) (search needs) (search needs) returns)
+refresh-gate-spec = tie.close (tie.spec (λ c. search needs) (λ c. search needs) (λ c. search needs) returns)

@@ -8,4 +8,4 @@ returns : tie.Need-returns
 returns c = next _ _ (rw (c .before .is .ensures) at (c .bar .ensures)) (c .before .before .admit .ensures)
 
 pub report-gate-spec : {M : Type 1} → statement M
-report-gate-spec = tie.close (tie.spec (search needs) (search needs) (search needs) returns)
+report-gate-spec = tie.close (tie.spec (λ c. search needs) (λ c. search needs) (λ c. search needs) returns)

@@ -20,4 +20,4 @@ unfolding checkStep passes _and_
 returns-3 c = no _ (told-not (c .before .before .before .before .before .before .whole .ensures) (c .before .before .before .before .before .if1 .left)) (no _ (c .if2 .left) refl)
 
 pub check-spec : {M : Type 1} → statement M
-check-spec = tie.close (tie.spec (search needs) returns returns-2 returns-3)
+check-spec = tie.close (tie.spec (λ c. search needs) returns returns-2 returns-3)

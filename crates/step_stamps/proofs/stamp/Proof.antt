@@ -19,4 +19,4 @@ unfolding stampStep
 returns-3 c = no _ (told-not (c .before .before .whole .ensures) (c .before .if1 .left)) (no _ (c .if2 .left) refl)
 
 pub stamp-spec : {M : Type 1} → statement M
-stamp-spec = tie.close (tie.spec (search needs) returns returns-2 returns-3)
+stamp-spec = tie.close (tie.spec (λ c. search needs) returns returns-2 returns-3)

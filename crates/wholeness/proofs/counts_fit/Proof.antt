@@ -11,4 +11,4 @@ unfolding countsFit _and_
 returns c = refl
 
 pub counts-fit-spec : {M : Type 1} → statement M
-counts-fit-spec = tie.close (tie.spec (search needs) (search needs) (search needs) (search needs) returns)
+counts-fit-spec = tie.close (tie.spec (λ c. search needs) (λ c. search needs) (λ c. search needs) (λ c. search needs) returns)

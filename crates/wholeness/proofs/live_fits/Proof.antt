@@ -15,4 +15,4 @@ returns c =
 pub live-fits-spec : {M : Type 1} → statement M
 live-fits-spec =
     tie.close
-    (tie.spec (search needs) (search needs) (search needs) (search needs) returns)
+    (tie.spec (λ c. search needs) (λ c. search needs) (λ c. search needs) (λ c. search needs) returns)

@@ -10,4 +10,4 @@ unfolding stagedFits _and_ _or_ _implies_
 returns c = simp (c .before .work .ensures)
 
 pub staged-fits-spec : {M : Type 1} → statement M
-staged-fits-spec = tie.close (tie.spec (search needs) returns)
+staged-fits-spec = tie.close (tie.spec (λ c. search needs) returns)

@@ -10,4 +10,4 @@ unfolding refusalWritten _or_
 returns c = simp (c .before .before .number .ensures, c .before .number2 .ensures, c .number3 .ensures)
 
 pub is-written-spec : {M : Type 1} → statement M
-is-written-spec = tie.close (tie.spec (search needs) (search needs) (search needs) returns)
+is-written-spec = tie.close (tie.spec (λ c. search needs) (λ c. search needs) (λ c. search needs) returns)

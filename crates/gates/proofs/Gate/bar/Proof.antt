@@ -18,4 +18,4 @@ unfolding barred pick
 returns-3 c = simp (c .before .enum-told .given .1, c .if1 .left)
 
 pub bar-spec : {M : Type 1} → statement M
-bar-spec = tie.close (tie.spec (search needs) returns (search needs) returns-2 returns-3)
+bar-spec = tie.close (tie.spec (λ c. search needs) returns (λ c. search needs) returns-2 returns-3)

@@ -10,4 +10,4 @@ unfolding long _or_
 returns c = c .bar .ensures
 
 pub bar-payloads-spec : {M : Type 1} → statement M
-bar-payloads-spec = tie.close (tie.spec (search needs) returns)
+bar-payloads-spec = tie.close (tie.spec (λ c. search needs) returns)

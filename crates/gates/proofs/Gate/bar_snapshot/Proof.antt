@@ -9,4 +9,4 @@ unfolding long
 returns c = c .bar .ensures
 
 pub bar-snapshot-spec : {M : Type 1} → statement M
-bar-snapshot-spec = tie.close (tie.spec (search needs) returns)
+bar-snapshot-spec = tie.close (tie.spec (λ c. search needs) returns)

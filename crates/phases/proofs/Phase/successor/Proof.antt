@@ -20,4 +20,4 @@ unfolding successor
 returns-2 c = no _ (told (c .before .has-successor .ensures) (c .if1 .left)) refl
 
 pub successor-spec : {M : Type 1} → statement M
-successor-spec = tie.close (tie.spec (search needs) add-t4 returns returns-2)
+successor-spec = tie.close (tie.spec (λ c. search needs) add-t4 returns returns-2)

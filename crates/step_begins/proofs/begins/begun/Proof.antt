@@ -9,4 +9,4 @@ unfolding begun
 returns c = c .with-ticket .ensures
 
 pub begun-spec : {M : Type 1} → statement M
-begun-spec = tie.close (tie.spec (search needs) (search needs) returns)
+begun-spec = tie.close (tie.spec (λ c. search needs) (λ c. search needs) returns)

@@ -10,4 +10,4 @@ returns : tie.Need-returns
 returns c = next-row (longPayloads _ _ []) (c .bar-payloads .ensures) (next _ _ (c .before .bar .ensures) (c .before .before .before .admit .ensures))
 
 pub edit-gate-spec : {M : Type 1} → statement M
-edit-gate-spec = tie.close (tie.spec (search needs) (search needs) (search needs) returns)
+edit-gate-spec = tie.close (tie.spec (λ c. search needs) (λ c. search needs) (λ c. search needs) returns)

@@ -7,4 +7,4 @@ returns : tie.Need-returns
 returns c = rw (c .before .start .ensures) at (c .opened .ensures)
 
 pub unopened-spec : {M : Type 1} → statement M
-unopened-spec = tie.close (tie.spec (search needs) (search needs) returns)
+unopened-spec = tie.close (tie.spec (λ c. search needs) (λ c. search needs) returns)

@@ -10,4 +10,4 @@ unfolding isLive _and_
 returns c = simp (c .before .work .ensures, c .number .ensures)
 
 pub is-spec : {M : Type 1} → statement M
-is-spec = tie.close (tie.spec (search needs) (search needs) returns)
+is-spec = tie.close (tie.spec (λ c. search needs) (λ c. search needs) returns)
