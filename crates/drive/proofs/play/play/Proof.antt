@@ -32,6 +32,6 @@ loop-again c =
 pub play-spec : {M : Type 1} → statement M
 play-spec =
     tie.close
-    (tie.spec Inv-loop μ-loop (search needs) (search needs) (search needs) (search needs) (search needs) (search needs) loop-holds
-    (search needs) (search needs) (search needs) (search needs) (search needs) (search needs) (search needs) slice-aggregate-put-told
-    (search needs) loop-less loop-again (search needs))
+    (tie.spec Inv-loop μ-loop (λ c. search needs) (λ c. search needs) (λ c. search needs) (λ c. search needs) (λ c. search needs) (λ c. search needs) loop-holds
+    (λ c. search needs) (λ c. search needs) (λ c. search needs) (λ c. search needs) (λ c. search needs) (λ c. search needs) (λ c. search needs) slice-aggregate-put-told
+    (λ c. search needs) loop-less loop-again (λ c. search needs))
