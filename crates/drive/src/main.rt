@@ -1,6 +1,5 @@
 // The driver: plays a script of calls over the proved libraries. It reads the script from standard input, a command to a line,
 // makes each call in turn on what it holds, and writes the answers to standard output.
-mod answers;
 mod bring;
 mod commands;
 mod held;
@@ -10,6 +9,7 @@ mod plain;
 mod play;
 mod show;
 mod steps;
+mod telling;
 mod templates;
 mod whole;
 

@@ -1,9 +1,9 @@
 // Writing to standard output by way of a buffer, of which the first `written` bytes wait. Every function answers how many wait now.
 // What does not fit any more is left out; `flush_before` makes room for the longest answer first.
-use super::answers::After;
-use super::answers::Digests;
-use super::answers::Told;
 use super::held::front;
+use super::telling::After;
+use super::telling::Digests;
+use super::telling::Told;
 use libc::STDOUT_FILENO;
 use record::Record;
 

@@ -1,14 +1,14 @@
 // The commands that are lent nothing: what is lent from here on, the record, stamps and their check.
 use super::NUMBERS;
-use super::answers::After;
-use super::answers::Told;
-use super::answers::after_check;
-use super::answers::after_stamp;
-use super::answers::leaving;
 use super::commands::Plain;
 use super::held::Counts;
 use super::held::lending;
 use super::held::size;
+use super::telling::After;
+use super::telling::Told;
+use super::telling::after_check;
+use super::telling::after_stamp;
+use super::telling::leaving;
 use record::Record;
 use rows::Row;
 use step_stamps::SaveStamp;

@@ -1,5 +1,5 @@
 // `show`: digests of all that the driver holds.
-use super::answers::Digests;
+use super::telling::Digests;
 ghost use Prim.Native.Nat.{_<_};
 
 const MODULUS: u64 = 4294967291;

@@ -1,6 +1,5 @@
 // The commands over all that the driver holds, lent or not: one element, a payload in the exchange area, and digests to show.
 use super::NUMBERS;
-use super::answers::Told;
 use super::commands::Whole;
 use super::held::ACCEPTED;
 use super::held::ACTIONS;
@@ -11,6 +10,7 @@ use super::held::LOG;
 use super::held::RECOVERY;
 use super::held::fill;
 use super::show::digests;
+use super::telling::Told;
 use rows::TOP8;
 
 fn put_payload(bytes: &mut [u8], length: u64, seed: u64) -> Told {
