@@ -34,5 +34,5 @@ returns-2 c = no _ (le-ltb _ _ (c .before .before .if1 .left)) (copy-all (c .bef
 pub copy-words-spec : {M : Type 1} → statement M
 copy-words-spec =
     tie.close
-    (tie.spec Inv-loop μ-loop returns loop-holds (λ c. search needs) (λ c. search needs) (λ c. search needs) (λ c. search needs) (λ c. search needs) (λ c. search needs) loop-again
-    (λ c. search needs) returns-2)
+    (tie.spec Inv-loop μ-loop returns loop-holds (λ c. search needs) (λ c. search needs) (λ c. search needs) (λ c. search needs)
+    (λ c. search needs) (λ c. search needs) loop-again (λ c. search needs) returns-2)

@@ -39,5 +39,5 @@ returns-2 c =
 pub exchange-spec : {M : Type 1} → statement M
 exchange-spec =
     tie.close
-    (tie.spec Inv-loop μ-loop returns loop-holds (λ c. search needs) (λ c. search needs) (λ c. search needs) (λ c. search needs) (λ c. search needs) (λ c. search needs) loop-again
-    (λ c. search needs) (λ c. search needs) returns-2)
+    (tie.spec Inv-loop μ-loop returns loop-holds (λ c. search needs) (λ c. search needs) (λ c. search needs) (λ c. search needs)
+    (λ c. search needs) (λ c. search needs) loop-again (λ c. search needs) (λ c. search needs) returns-2)

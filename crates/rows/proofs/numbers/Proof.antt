@@ -19,5 +19,5 @@ returns c = simp (flag-byte, c .before .work .ensures, c .number .ensures)
 pub numbers-spec : {M : Type 1} → statement M
 numbers-spec =
     tie.close
-    (tie.spec (λ c. search needs) (λ c. search needs) (λ c. search needs) (λ c. search needs) (λ c. search needs) cast-t11 cast-t12 (λ c. search needs) (λ c. search needs)
-    (λ c. search needs) (λ c. search needs) returns)
+    (tie.spec (λ c. search needs) (λ c. search needs) (λ c. search needs) (λ c. search needs) (λ c. search needs) cast-t11 cast-t12
+    (λ c. search needs) (λ c. search needs) (λ c. search needs) (λ c. search needs) returns)

@@ -45,6 +45,7 @@ returns-2 c = no _ (no-right _ (told (c .before .in-ranges .ensures) (c .if1 .le
 pub record-of-spec : {M : Type 1} → statement M
 record-of-spec =
     tie.close
-    (tie.spec (λ c. search needs) (λ c. search needs) cast-live-of (λ c. search needs) (λ c. search needs) (λ c. search needs) (λ c. search needs) (λ c. search needs)
-    (λ c. search needs) (λ c. search needs) (λ c. search needs) (λ c. search needs) cast-t9 (λ c. search needs) cast-t40 (λ c. search needs) cast-t44 (λ c. search needs) cast-t48
-    (λ c. search needs) cast-t52 (λ c. search needs) cast-t56 (λ c. search needs) returns returns-2)
+    (tie.spec (λ c. search needs) (λ c. search needs) cast-live-of (λ c. search needs) (λ c. search needs) (λ c. search needs)
+    (λ c. search needs) (λ c. search needs) (λ c. search needs) (λ c. search needs) (λ c. search needs) (λ c. search needs) cast-t9
+    (λ c. search needs) cast-t40 (λ c. search needs) cast-t44 (λ c. search needs) cast-t48 (λ c. search needs) cast-t52
+    (λ c. search needs) cast-t56 (λ c. search needs) returns returns-2)

@@ -49,4 +49,6 @@ returns-4 c =
     (no _ (rw (c .before .has .ensures) at (c .if3 .left)) refl))
 
 pub look-up-spec : {M : Type 1} → statement M
-look-up-spec = tie.close (tie.spec returns returns-2 shared-slice-read-group shared-slice-read-mark (λ c. search needs) returns-3 returns-4)
+look-up-spec =
+    tie.close
+    (tie.spec returns returns-2 shared-slice-read-group shared-slice-read-mark (λ c. search needs) returns-3 returns-4)

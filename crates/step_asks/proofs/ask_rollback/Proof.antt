@@ -73,5 +73,6 @@ returns-5 c =
 pub ask-rollback-spec : {M : Type 1} → statement M
 ask-rollback-spec =
     tie.close
-    (tie.spec (λ c. search needs) (λ c. search needs) (λ c. search needs) returns (λ c. search needs) (λ c. search needs) returns-2 (λ c. search needs) returns-3
-    (λ c. search needs) (λ c. search needs) (λ c. search needs) returns-4 add-number (λ c. search needs) (λ c. search needs) (λ c. search needs) returns-5)
+    (tie.spec (λ c. search needs) (λ c. search needs) (λ c. search needs) returns (λ c. search needs) (λ c. search needs) returns-2
+    (λ c. search needs) returns-3 (λ c. search needs) (λ c. search needs) (λ c. search needs) returns-4 add-number
+    (λ c. search needs) (λ c. search needs) (λ c. search needs) returns-5)

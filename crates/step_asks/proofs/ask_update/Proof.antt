@@ -60,5 +60,6 @@ returns-4 c =
 pub ask-update-spec : {M : Type 1} → statement M
 ask-update-spec =
     tie.close
-    (tie.spec (λ c. search needs) (λ c. search needs) (λ c. search needs) (λ c. search needs) returns (λ c. search needs) (λ c. search needs) (λ c. search needs) returns-2
-    (λ c. search needs) returns-3 add-started (λ c. search needs) (λ c. search needs) returns-4)
+    (tie.spec (λ c. search needs) (λ c. search needs) (λ c. search needs) (λ c. search needs) returns (λ c. search needs)
+    (λ c. search needs) (λ c. search needs) returns-2 (λ c. search needs) returns-3 add-started (λ c. search needs)
+    (λ c. search needs) returns-4)

@@ -12,4 +12,7 @@ returns-2 : tie.Need-returns-2
 returns-2 c = opened _ refl (c .before .before .before .enum-told .given .1) (rw (c .before .opened .ensures, c .before .before .standing .ensures) at (c .answering .ensures))
 
 pub recovered-spec : {M : Type 1} → statement M
-recovered-spec = tie.close (tie.spec (λ c. search needs) (λ c. search needs) returns (λ c. search needs) (λ c. search needs) (λ c. search needs) (λ c. search needs) returns-2)
+recovered-spec =
+    tie.close
+    (tie.spec (λ c. search needs) (λ c. search needs) returns (λ c. search needs) (λ c. search needs) (λ c. search needs)
+    (λ c. search needs) returns-2)

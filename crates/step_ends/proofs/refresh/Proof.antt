@@ -20,4 +20,6 @@ returns-2 c =
     let-in _ (refreshBars (a .r) (a .length)) (k .refresh-gate .ensures) (a .r) (c .before .enum-told .given .1) (c .answering .ensures)
 
 pub refresh-spec : {M : Type 1} → statement M
-refresh-spec = tie.close (tie.spec (λ c. search needs) (λ c. search needs) (λ c. search needs) returns (λ c. search needs) (λ c. search needs) returns-2)
+refresh-spec =
+    tie.close
+    (tie.spec (λ c. search needs) (λ c. search needs) (λ c. search needs) returns (λ c. search needs) (λ c. search needs) returns-2)

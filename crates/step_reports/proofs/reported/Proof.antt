@@ -29,4 +29,7 @@ unfolding reported
 returns-3 c = let a = c .before .before .args in ap (of (a .r) (tells (a .done))) (sym (c .enum-told2 .given .1))
 
 pub reported-spec : {M : Type 1} → statement M
-reported-spec = tie.close (tie.spec (λ c. search needs) (λ c. search needs) (λ c. search needs) (λ c. search needs) (λ c. search needs) returns returns-2 returns-3)
+reported-spec =
+    tie.close
+    (tie.spec (λ c. search needs) (λ c. search needs) (λ c. search needs) (λ c. search needs) (λ c. search needs) returns returns-2
+    returns-3)

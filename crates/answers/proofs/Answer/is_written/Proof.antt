@@ -27,4 +27,6 @@ stepping More h = refl
 stepping Finished h = refl
 
 pub is-written-spec : {M : Type 1} → statement M
-is-written-spec = tie.close (tie.spec (λ c. search needs) (λ c. search needs) (λ c. search needs) (λ c. search needs) returns-2 (λ c. search stepping))
+is-written-spec =
+    tie.close
+    (tie.spec (λ c. search needs) (λ c. search needs) (λ c. search needs) (λ c. search needs) returns-2 (λ c. search stepping))

@@ -13,4 +13,6 @@ returns c =
     next _ _ (c .bar3 .ensures) (next-row (longPayloads _ _ []) (k .bar-payloads .ensures) (next _ _ (k .before .bar2 .ensures) (next _ _ (k .before .before .before .bar .ensures) (k .before .before .before .before .admit .ensures))))
 
 pub begin-gate-spec : {M : Type 1} → statement M
-begin-gate-spec = tie.close (tie.spec (λ c. search needs) (λ c. search needs) (λ c. search needs) (λ c. search needs) (λ c. search needs) returns)
+begin-gate-spec =
+    tie.close
+    (tie.spec (λ c. search needs) (λ c. search needs) (λ c. search needs) (λ c. search needs) (λ c. search needs) returns)

@@ -20,4 +20,6 @@ returns-2 c =
     let-in _ (editBars (a .r) (a .candidate) (a .recovery)) (k .edit-gate .ensures) (a .r) (c .before .enum-told .given .1) (c .answering .ensures)
 
 pub edit-spec : {M : Type 1} → statement M
-edit-spec = tie.close (tie.spec (λ c. search needs) (λ c. search needs) (λ c. search needs) returns (λ c. search needs) (λ c. search needs) returns-2)
+edit-spec =
+    tie.close
+    (tie.spec (λ c. search needs) (λ c. search needs) (λ c. search needs) returns (λ c. search needs) (λ c. search needs) returns-2)

@@ -32,4 +32,7 @@ returns-2 c =
     no _ (ne-eqb _ _ (c .before .if1 .left)) (c .answering2 .ensures ∙ ap (λ (a : ℕ). answer More (off r a)) (k .least .ensures))
 
 pub rollback-done-spec : {M : Type 1} → statement M
-rollback-done-spec = tie.close (tie.spec (λ c. search needs) (λ c. search needs) (λ c. search needs) (λ c. search needs) (λ c. search needs) returns (λ c. search needs) returns-2)
+rollback-done-spec =
+    tie.close
+    (tie.spec (λ c. search needs) (λ c. search needs) (λ c. search needs) (λ c. search needs) (λ c. search needs) returns
+    (λ c. search needs) returns-2)

@@ -29,4 +29,6 @@ returns-2 c =
     no _ (told (k .boundary .ensures ∙ ap at-boundary e) (c .before .if1 .left)) (c .answering2 .ensures ∙ ap (answer More) e)
 
 pub structure-done-spec : {M : Type 1} → statement M
-structure-done-spec = tie.close (tie.spec (λ c. search needs) (λ c. search needs) (λ c. search needs) returns (λ c. search needs) returns-2)
+structure-done-spec =
+    tie.close
+    (tie.spec (λ c. search needs) (λ c. search needs) (λ c. search needs) returns (λ c. search needs) returns-2)

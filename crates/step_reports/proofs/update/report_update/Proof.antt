@@ -34,4 +34,5 @@ returns-2 c =
 pub report-update-spec : {M : Type 1} → statement M
 report-update-spec =
     tie.close
-    (tie.spec (λ c. search needs) (λ c. search needs) (λ c. search needs) returns (λ c. search needs) (λ c. search needs) update-done-requires (λ c. search needs) returns-2)
+    (tie.spec (λ c. search needs) (λ c. search needs) (λ c. search needs) returns (λ c. search needs) (λ c. search needs)
+    update-done-requires (λ c. search needs) returns-2)

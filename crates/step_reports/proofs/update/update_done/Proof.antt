@@ -18,4 +18,6 @@ unfolding updateDone
 returns-2 c = no _ (ne-eqb _ _ (c .before .if1 .left)) (c .answering2 .ensures)
 
 pub update-done-spec : {M : Type 1} → statement M
-update-done-spec = tie.close (tie.spec (λ c. search needs) (λ c. search needs) (λ c. search needs) returns (λ c. search needs) returns-2)
+update-done-spec =
+    tie.close
+    (tie.spec (λ c. search needs) (λ c. search needs) (λ c. search needs) returns (λ c. search needs) returns-2)
