@@ -9,8 +9,9 @@ use Rattle.areas.specs.Areas.{sized, copied}
 use Rattle.batch.specs.Batch.{limit, tableSized, paired, stored}
 use Rattle.batch.proofs.Laws.{stored-identities}
 use Rattle.phases.specs.{declared.Next.Next, declared.Next.the-variants.To, declared.Next.the-variants.Nowhere}
-use Rattle.record.specs.{Classes.refused, Classes.Class.performed, Answers.Told, Leaves.Leaves, Given.beginning, Fields.top, declared.Record.Record, declared.Outcome.Outcome}
+use Rattle.record.specs.{Answers.Told, Leaves.Leaves, Given.beginning, Fields.top, declared.Record.Record, declared.Outcome.Outcome}
 use Rattle.record.specs.{declared.Beginning.Beginning}
+use Rattle.answers.specs.{Classes.refused, Classes.Class.performed}
 use Rattle.wholeness.specs.Whole.{whole}
 use Rattle.log.specs.Log.{sound}
 use Rattle.noting.specs.{Recorded.withLog, Through.leavesThrough}

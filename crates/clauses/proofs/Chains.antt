@@ -7,7 +7,8 @@ use lib.Dec.{eqb}
 use borrow.Author.Tests.{lt-ltb, le-ltb, not-true}
 use Rattle.choice.specs.Pick.{pick, _or_}
 use Rattle.choice.proofs.Tests.{both, either}
-use Rattle.record.specs.{Classes.successful, Classes.Class.performed, Fields.top, declared.Record.Record, declared.Opening.Opening}
+use Rattle.record.specs.{Fields.top, declared.Record.Record, declared.Opening.Opening}
+use Rattle.answers.specs.{Classes.successful, Classes.Class.performed}
 use Rattle.wholeness.specs.Whole.{complete}
 use Rattle.step_begins.specs.Opening.{openStep}
 use Rattle.calls.specs.{Calls.step, Calls.Call.commit, Calls.Call.recover}

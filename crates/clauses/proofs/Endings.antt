@@ -8,9 +8,11 @@ use borrow.Author.Tests.{eqb-true, ltb-true, ltb-false, le-ltb, not-true, not-fa
 use Rattle.choice.specs.Pick.{pick, _or_}
 use Rattle.choice.proofs.{Picks.yes, Picks.no, Tests.tests, Tests.never, Tests.both, Tests.either, Tests.neither}
 use Rattle.areas.specs.Areas.{areaSize, long}
-use Rattle.record.specs.{Classes.Class, Classes.Class.refusal, Answers.Told, Answers.answer, Fields.top, declared.Record.Record, declared.Answer.the-variants.Done}
-use Rattle.record.specs.{declared.Was.the-variants.Three, declared.Refusal.the-variants.Idle, declared.Refusal.the-variants.NotReady}
-use Rattle.wholeness.specs.{Whole.whole, Whole.complete, Gates.Bar, Gates.barring, Gates.longSnapshot}
+use Rattle.record.specs.{Answers.Told, Answers.answer, Fields.top, declared.Record.Record}
+use Rattle.answers.specs.{Classes.Class, Classes.Class.refusal, declared.Answer.the-variants.Done, declared.Was.the-variants.Three}
+use Rattle.answers.specs.{declared.Refusal.the-variants.Idle, declared.Refusal.the-variants.NotReady}
+use Rattle.wholeness.specs.{Whole.whole, Whole.complete}
+use Rattle.gates.specs.{Gates.Bar, Gates.barring, Gates.longSnapshot}
 use Rattle.gates.proofs.Passing.{Clear, fails}
 use Rattle.record.specs.Given.{opening}
 use Rattle.step_ends.specs.Ending.{afterCommit, commitBars, commitOwn, unrestored, recoverBars, recoveredTo, recoverOwn, recoverRetainedOwn}

@@ -8,8 +8,10 @@ use Rattle.choice.specs.Pick.{pick}
 use Rattle.choice.proofs.Tests.{tests, both, join, eqb-ne}
 use Rattle.phases.specs.Phases.{updates, adopt, undo, recoverRemove}
 use Rattle.areas.specs.Areas.{areaSize}
-use Rattle.record.specs.{Classes.Class.stepping, Classes.StepAnswer.finished, Answers.Told, Fields.top, Fields.adopting, Live.isLive, declared.Record.Record}
-use Rattle.record.specs.{declared.Outcome.Outcome, declared.Outcome.the-variants.Done}
+use Rattle.record.specs.{Answers.Told, Fields.top, Fields.adopting, declared.Record.Record, declared.Outcome.Outcome}
+use Rattle.record.specs.{declared.Outcome.the-variants.Done}
+use Rattle.answers.specs.{Classes.Class.stepping, Classes.StepAnswer.finished}
+use Rattle.tickets.specs.{Live.isLive}
 use Rattle.tickets.specs.Live as Tickets
 use Rattle.wholeness.specs.Whole.{whole}
 use Rattle.step_asks.specs.Asks.{turned, askStructureOwn, askUpdateOwn, askRollbackOwn}

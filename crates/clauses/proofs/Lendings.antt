@@ -8,7 +8,8 @@ use Rattle.choice.proofs.{Picks.yes, Picks.no, Tests.tests, Tests.never}
 use Rattle.areas.specs.Areas.{areaSize, sized, copied}
 use Rattle.areas.proofs.Laws.{copied-fits}
 use Rattle.batch.specs.Batch.{tableWords, tableSized, pairsIn}
-use Rattle.record.specs.{Answers.Told, Answers.refuse, declared.Record.Record, declared.Refusal.the-variants.BadArea}
+use Rattle.record.specs.{Answers.Told, Answers.refuse, declared.Record.Record}
+use Rattle.answers.specs.{declared.Refusal.the-variants.BadArea}
 use Rattle.gates.specs.Gates.{gateOf, gated}
 use Rattle.calls.specs.{Calls.Call, Calls.stepOf, Calls.AnyCall.calls, Calls.Work.structure, Calls.Work.update, Calls.Work.rollback, Lending.Stored.structured}
 use Rattle.calls.specs.{Lending.Stored.updated, Lending.Stored.rolledBack, Lending.Lending, Lending.callOf, Lending.fits}

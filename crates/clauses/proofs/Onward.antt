@@ -7,7 +7,8 @@ use borrow.Author.Tests.{eqb-true}
 use Rattle.choice.specs.Pick.{pick, _or_}
 use Rattle.choice.proofs.Tests.{either, neither}
 use Rattle.phases.specs.{Phases.hasSuccessor, Phases.successor, Phases.boundary, declared.Next.the-variants.To}
-use Rattle.record.specs.{Fields.top, Fields.spent, Fields.withPlace, Live.isLive, declared.Record.Record, declared.Live.Live}
+use Rattle.record.specs.{Fields.top, Fields.spent, Fields.withPlace, declared.Record.Record}
+use Rattle.tickets.specs.{Live.isLive, declared.Live.Live}
 use Rattle.tickets.specs.Live as Tickets
 use Rattle.wholeness.specs.Whole.{whole}
 use Rattle.step_reports.specs.{Done.advanced, Reports.storing}

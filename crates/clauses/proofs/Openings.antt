@@ -6,8 +6,8 @@ use lib.ListN.{length, getD, replicate}
 use borrow.Author.Tests.{ltb-false, le-ltb, not-false}
 use Rattle.choice.proofs.{Picks.no, Tests.both}
 use Rattle.areas.specs.Areas.{areaSize, sized, copied, long}
-use Rattle.record.specs.{Classes.Class.performed, Classes.refused, Answers.Told, Answers.answer, Leaves.moving, Given.at, Fields.top, declared.Opening.Opening}
-use Rattle.record.specs.{declared.Answer.the-variants.Done, declared.Was.the-variants.Nothing}
+use Rattle.record.specs.{Answers.Told, Answers.answer, Leaves.moving, Given.at, Fields.top, declared.Opening.Opening}
+use Rattle.answers.specs.{Classes.Class.performed, Classes.refused, declared.Answer.the-variants.Done, declared.Was.the-variants.Nothing}
 use Rattle.answers.specs.declared.Refusal.the-variants.{BadArea, TooLong}
 use Rattle.wholeness.specs.Whole.{whole}
 use Rattle.gates.proofs.Passing.{fails}

@@ -6,8 +6,9 @@ use lib.Dec.{eqb}
 use borrow.Author.Tests.{ne-eqb, leb-true, not-true, not-false}
 use Rattle.choice.specs.Pick.{_or_}
 use Rattle.choice.proofs.Tests.{never, either, neither, join, no-left, no-right, tests}
-use Rattle.record.specs.{Classes.taken, Classes.Class.refusal, Classes.Class.stepping, Classes.StepAnswer.finished, Answers.Told, Fields.top, Fields.adopting}
-use Rattle.record.specs.{declared.Record.Record, declared.Outcome.Outcome, declared.Refusal.the-variants.Recovering}
+use Rattle.record.specs.{Answers.Told, Fields.top, Fields.adopting, declared.Record.Record, declared.Outcome.Outcome}
+use Rattle.answers.specs.{Classes.taken, Classes.Class.refusal, Classes.Class.stepping, Classes.StepAnswer.finished}
+use Rattle.answers.specs.{declared.Refusal.the-variants.Recovering}
 use Rattle.wholeness.specs.Whole.{whole, complete}
 use Rattle.step_asks.specs.Asks.{askUpdateOwn, turned, askRollbackOwn}
 use Rattle.step_reports.specs.Done.{updateDone, leaving, rollbackDone}

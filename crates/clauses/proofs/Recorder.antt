@@ -6,10 +6,12 @@ use mathlib.Core.{Path._≡_, Path.refl, Path.sym, Path._∙_, Path.ap, Path.sub
 use borrow.Author.Tests.{not-true, not-false}
 use Rattle.choice.specs.Pick.{pick, _and_, _or_}
 use Rattle.choice.proofs.{Picks.yes, Picks.no, Picks.picked, Picks.each, Tests.both, Tests.never}
-use Rattle.record.specs.{Classes.Class, Classes.refused, Classes.refusalWritten, Classes.callWritten, Classes.Class.performed, Classes.Class.refusal, Classes.Class.stepping, Answers.Told}
-use Rattle.record.specs.{Answers.refuse, Leaves.Leaves, Leaves.leaves, Leaves.moving, Fields.top, declared.Record.Record, declared.Refusal.Refusal}
-use Rattle.record.specs.{declared.Refusal.the-variants.BadArea, declared.Refusal.the-variants.Damaged, declared.Refusal.the-variants.LogFull}
-use Rattle.wholeness.specs.{Whole.whole, Gates.gateOf, Gates.gated}
+use Rattle.record.specs.{Answers.Told, Answers.refuse, Leaves.Leaves, Leaves.leaves, Leaves.moving, Fields.top, declared.Record.Record}
+use Rattle.answers.specs.{Classes.Class, Classes.refused, Classes.refusalWritten, Classes.callWritten, Classes.Class.performed, Classes.Class.refusal}
+use Rattle.answers.specs.{Classes.Class.stepping, declared.Refusal.Refusal, declared.Refusal.the-variants.BadArea}
+use Rattle.answers.specs.{declared.Refusal.the-variants.Damaged, declared.Refusal.the-variants.LogFull}
+use Rattle.wholeness.specs.{Whole.whole}
+use Rattle.gates.specs.{Gates.gateOf, Gates.gated}
 use Rattle.log.specs.Log.{sound, appended}
 use Rattle.noting.specs.{Recorded.withLog, Recorded.recorded, Through.inner, Through.logs, Through.leavesThrough}
 use Rattle.calls.specs.{Calls.Call, Calls.AnyCall, Calls.stepOf, Calls.AnyCall.calls, Kinds.kindOf, Kinds.writtenAs}

@@ -7,7 +7,8 @@ use borrow.Author.Tests.{eq-eqb, eqb-true, ltb-false, le-ltb, not-true}
 use Rattle.choice.specs.Pick.{_or_}
 use Rattle.choice.proofs.Tests.{never, both, join}
 use Rattle.areas.specs.Areas.{long}
-use Rattle.record.specs.{Classes.refused, Answers.answer, Fields.top, Fields.withLengths, declared.Record.Record, declared.Answer.the-variants.Done, declared.Was.the-variants.One}
+use Rattle.record.specs.{Answers.answer, Fields.top, Fields.withLengths, declared.Record.Record}
+use Rattle.answers.specs.{Classes.refused, declared.Answer.the-variants.Done, declared.Was.the-variants.One}
 use Rattle.answers.specs.declared.Refusal.the-variants.{Pending, TooLong}
 use Rattle.wholeness.specs.Whole.{whole}
 use Rattle.gates.proofs.Passing.{fails}

@@ -5,11 +5,12 @@ use Prim.Native.Nat.{ℕ, _≤_}
 use mathlib.Core.{Path._≡_, Path.refl, Path.sym, Path._∙_, Path.ap, Bool.true, Bool.false, Bool.not, List.[]}
 use Rattle.choice.proofs.Picks.{yes, no}
 use Rattle.areas.specs.Areas.{areaSize}
-use Rattle.record.specs.{Classes.refused, Classes.Class.refusal, Answers.Told, Given.effectOf, Fields.spent, declared.Record.Record, declared.Outcome.Outcome}
-use Rattle.record.specs.{declared.Refusal.the-variants.Damaged}
+use Rattle.record.specs.{Answers.Told, Given.effectOf, Fields.spent, declared.Record.Record, declared.Outcome.Outcome}
+use Rattle.answers.specs.{Classes.refused, Classes.Class.refusal, declared.Refusal.the-variants.Damaged}
 use Rattle.tickets.specs.Live as Tickets
 use Rattle.record.specs.declared.Outcome.the-variants as O
-use Rattle.wholeness.specs.{Whole.whole, Gates.barring, Gates.longPayloads}
+use Rattle.wholeness.specs.{Whole.whole}
+use Rattle.gates.specs.{Gates.barring, Gates.longPayloads}
 use Rattle.step_reports.specs.Done.{structureDone, updateDone, rollbackDone}
 use Rattle.step_reports.specs.Reports.{storing, stale, reported, reportStructureOwn, reportUpdateOwn, reportRollbackOwn}
 use Rattle.calls.specs.{Calls.Call, Calls.step, Calls.AnyCall.calls, Calls.Report.structured, Calls.Report.updated, Calls.Report.rolledBack, Calls.Call.report}

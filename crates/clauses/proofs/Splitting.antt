@@ -7,12 +7,14 @@ use borrow.Author.Tests.{le-ltb, ne-eqb}
 use Rattle.choice.specs.Pick.{pick, _and_, _or_}
 use Rattle.choice.proofs.{Picks.picked, Tests.never, Tests.both, Tests.neither, Tests.eqb-ne, Tests.tests}
 use Rattle.areas.specs.Areas.{areaSize, long}
-use Rattle.record.specs.{Classes.Class.performed, Classes.Class.refusal, Classes.Class.stepping, Classes.StepAnswer.finished, Answers.Told, Answers.told, Answers.said}
-use Rattle.record.specs.{Answers.refuse, Given.effectOf, Fields.top, declared.Record.Record, declared.Outcome.Outcome, declared.Refusal.Refusal}
+use Rattle.record.specs.{Answers.Told, Answers.told, Answers.refuse, Given.effectOf, Fields.top, declared.Record.Record, declared.Outcome.Outcome}
+use Rattle.answers.specs.{Classes.Class.performed, Classes.Class.refusal, Classes.Class.stepping, Classes.StepAnswer.finished, Answers.said}
+use Rattle.answers.specs.{declared.Refusal.Refusal}
 use Rattle.answers.specs.Classes.{Class, StepAnswer, refusalNumber, numberOf, refused, takes, taken}
 use Rattle.record.specs.declared.Outcome.the-variants as O
 use Rattle.answers.specs.declared.Refusal.the-variants.{NotReady, Recovering}
-use Rattle.wholeness.specs.{Whole.whole, Gates.Bar, Gates.barring}
+use Rattle.wholeness.specs.{Whole.whole}
+use Rattle.gates.specs.{Gates.Bar, Gates.barring}
 use Rattle.gates.proofs.Passing.{Clear}
 use Rattle.step_reports.specs.Reports.{reported}
 use Rattle.calls.specs.Calls.{Call, step}

@@ -6,7 +6,8 @@ use native.Mathlib.Omega.{arith}
 use lib.ListN.{take}
 use Rattle.choice.specs.Pick.{pick}
 use Rattle.phases.specs.Phases.{remove, adopt, recoverRemove}
-use Rattle.record.specs.{Classes.successful, Answers.Told, Answers.saidOf, Fields.top, Fields.spent, Fields.adopting, declared.Record.Record, declared.Opening.Opening}
+use Rattle.record.specs.{Answers.Told, Answers.saidOf, Fields.top, Fields.spent, Fields.adopting, declared.Record.Record, declared.Opening.Opening}
+use Rattle.answers.specs.{Classes.successful}
 use Rattle.tickets.specs.Live as Tickets
 use Rattle.step_begins.specs.{Opening.opening, Opening.openStep, Beginning.begun}
 use Rattle.step_asks.specs.Asks.{turned}

@@ -4,10 +4,11 @@ use mathlib.Core.{Path._≡_, Path.refl, Path.ap, Bool.Bool, Bool.true, Bool.fal
 use borrow.Author.Tests.{eqb-true, ne-eqb, ltb-true, ltb-false, le-ltb, not-true}
 use Rattle.choice.specs.Pick.{pick}
 use Rattle.choice.proofs.{Picks.yes, Picks.no, Tests.never, Tests.eqb-ne}
-use Rattle.record.specs.{Classes.Class, Classes.Class.refusal, Answers.Told, Answers.answer, Fields.top, Fields.withLengths, declared.Record.Record, declared.Beginning.Beginning}
-use Rattle.record.specs.{declared.Answer.the-variants.Done, declared.Was.the-variants.Nothing}
+use Rattle.record.specs.{Answers.Told, Answers.answer, Fields.top, Fields.withLengths, declared.Record.Record, declared.Beginning.Beginning}
+use Rattle.answers.specs.{Classes.Class, Classes.Class.refusal, declared.Answer.the-variants.Done, declared.Was.the-variants.Nothing}
 use Rattle.answers.specs.declared.Refusal.the-variants.{Pending, Idle, Capacity, TooLong, TooMany}
-use Rattle.wholeness.specs.{Whole.whole, Gates.Bar}
+use Rattle.wholeness.specs.{Whole.whole}
+use Rattle.gates.specs.{Gates.Bar}
 use Rattle.gates.proofs.Passing.{Clear, fails}
 use Rattle.step_begins.specs.Beginning.{firstPhase, begun, beginBars, beginOwn, editBars, editOwn}
 use Rattle.calls.specs.{Calls.step, Calls.Call.begin, Calls.Call.edit}

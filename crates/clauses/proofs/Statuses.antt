@@ -7,7 +7,7 @@ use lib.Seq.{getD-set-same, getD-set-other}
 use borrow.Author.Tests.{eq-eqb, le-leb, leb-false, not-true, not-false}
 use Rattle.choice.specs.Pick.{pick, _and_, _or_}
 use Rattle.choice.proofs.{Picks.picked, Tests.tests, Tests.never, Tests.both, Tests.neither, Tests.join}
-use Rattle.record.specs.{Classes.refused, Classes.Class.performed, Answers.said, declared.Refusal.Refusal}
+use Rattle.answers.specs.{Classes.refused, Classes.Class.performed, Answers.said, declared.Refusal.Refusal}
 use Rattle.status.specs.{declared.StatusCall.StatusCall, declared.StatusCall.the-variants.Initialize, declared.Entry.Entry}
 use Rattle.status.specs.Status.{Marks, leavesMarks, groupLive, groupSettled, markLinked, markCancelled, markInitialized, markFinished, markMost, has, with, bytesSound, entryOf}
 use Rattle.status.specs.Status.{put, marking, marksOf}

@@ -4,8 +4,9 @@ use mathlib.Core.{Path._≡_, Path.refl, Path.ap, Bool.true, Bool.false, Logic._
 use borrow.Author.Tests.{not-false}
 use Rattle.choice.proofs.Tests.{test}
 use Rattle.phases.specs.{Phases.hasSuccessor, Phases.boundary, declared.Phase.Phase}
-use Rattle.record.specs.{Classes.Class, Classes.refused, Classes.Class.refusal, Classes.StepAnswer.finished, Answers.Told, Fields.top, Live.isLive, declared.Record.Record}
-use Rattle.record.specs.{declared.Outcome.Outcome, declared.Refusal.the-variants.NotReady}
+use Rattle.record.specs.{Answers.Told, Fields.top, declared.Record.Record, declared.Outcome.Outcome}
+use Rattle.answers.specs.{Classes.Class, Classes.refused, Classes.Class.refusal, Classes.StepAnswer.finished, declared.Refusal.the-variants.NotReady}
+use Rattle.tickets.specs.{Live.isLive}
 use Rattle.tickets.specs.Live as Tickets
 use Rattle.wholeness.specs.Whole.{whole}
 use Rattle.step_asks.specs.Asks.{askStructureOwn}

@@ -4,7 +4,8 @@ use mathlib.Core.{Path._≡_, Path.refl, Bool.Bool, Bool.true, Bool.false, List.
 use native.Mathlib.Omega.{arith}
 use Rattle.choice.specs.Pick.{pick, _and_, _or_}
 use Rattle.phases.specs.Phases.{hasSuccessor, successor, boundary}
-use Rattle.record.specs.{Fields.top, declared.Record.Record, declared.Live.Live, declared.Live.the-variants.None}
+use Rattle.record.specs.{Fields.top, declared.Record.Record}
+use Rattle.tickets.specs.{declared.Live.Live, declared.Live.the-variants.None}
 use Rattle.wholeness.specs.Whole.{whole}
 use Rattle.wholeness.proofs.Facts.{parts}
 use Rattle.demand_steps.proofs.{Facts.Stage, Facts.Calm, Facts.tests, Facts.Calm.on, Facts.Calm.off, Reading.whole-facts, Calming.room}
