@@ -1,6 +1,5 @@
-// Opening, beginning a transaction and editing what is staged, with what is lent.
-use record::Beginning;
-use record::Findings;
+// Opening, and beginning a transaction of either kind, with what is lent.
+use call_stages::begin_as;
 use record::Opening;
 use record::Record;
 use record::Stepped;
@@ -10,7 +9,7 @@ ghost use mathlib.Core.Bool.{true, false};
 ghost use Rattle.record.specs.Answers.{tells};
 ghost use Rattle.record.specs.Leaves.{leaves};
 ghost use Rattle.calls.specs.Lending.{leavesOf, unopened};
-ghost use Rattle.calls.specs.Lending.Lending.{openAt, begin, edit};
+ghost use Rattle.calls.specs.Lending.Lending.{openAt, begin};
 
 // A new record, with an accepted payload.
 pub fn open(given: Opening, accepted: &mut [u8], payload: &[u8]) -> Stepped
@@ -19,39 +18,6 @@ pub fn open(given: Opening, accepted: &mut [u8], payload: &[u8]) -> Stepped
 {
     let stepped = step_begins::open(areas::is_sized(accepted.len()), given, payload.len());
     moves::payload(stepped, accepted, payload)
-}
-
-// Stages a candidate payload (`new`), a recovery payload (`old`) and the pairs of a batch, for a structural transaction or an
-// update-only one.
-pub fn begin_as(
-    structural: bool,
-    r: Record,
-    candidate: &mut [u8],
-    recovery: &mut [u8],
-    table: &mut [u64],
-    new: &[u8],
-    old: &[u8],
-    pairs: &[u64],
-) -> Stepped
-    ensures { λ s. ⌜ leaves (tells s) (now (candidate .exit) ∷ now (recovery .exit) ∷ now (table .exit) ∷ [])
-        ≡ leavesOf r (begin structural (now (candidate .entry)) (now (recovery .entry)) (now (table .entry))
-        (now (new .entry)) (now (old .entry)) (now (pairs .entry))) ⌝ }
-{
-    let found = Findings::of(
-        areas::is_sized(candidate.len())
-            & areas::is_sized(recovery.len())
-            & batch::is_sized(table.len())
-            & batch::are_pairs(pairs.len()),
-    );
-    let given = Beginning {
-        candidate: new.len(),
-        recovery: old.len(),
-        actions: pairs.len() / 2,
-    };
-    let stepped = step_begins::begin(r, found, structural, given);
-    let half = moves::payload(stepped, candidate, new);
-    let staged = moves::payload(half, recovery, old);
-    moves::pairs(staged, table, pairs)
 }
 
 // An update-only transaction.
@@ -86,15 +52,4 @@ pub fn begin_structural(
         (now (new .entry)) (now (old .entry)) (now (pairs .entry))) ⌝ }
 {
     begin_as(true, r, candidate, recovery, table, new, old, pairs)
-}
-
-// Replaces both staged payloads.
-pub fn edit(r: Record, candidate: &mut [u8], recovery: &mut [u8], new: &[u8], old: &[u8]) -> Stepped
-    ensures { λ s. ⌜ leaves (tells s) (now (candidate .exit) ∷ now (recovery .exit) ∷ [])
-        ≡ leavesOf r (edit (now (candidate .entry)) (now (recovery .entry)) (now (new .entry)) (now (old .entry))) ⌝ }
-{
-    let found = Findings::of(areas::is_sized(candidate.len()) & areas::is_sized(recovery.len()));
-    let stepped = step_begins::edit(r, found, new.len(), old.len());
-    let half = moves::payload(stepped, candidate, new);
-    moves::payload(half, recovery, old)
 }

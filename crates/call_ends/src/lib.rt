@@ -1,5 +1,5 @@
-// Ending a transaction by a commit or a recovery, and refreshing what is accepted. Areas are exchanged whole, so that what was
-// accepted is handed back.
+// Ending a transaction by a commit, and refreshing what is accepted. Areas are exchanged whole, so that what was accepted is handed
+// back.
 use record::Findings;
 use record::Record;
 use record::Stepped;
@@ -8,7 +8,7 @@ ghost use mathlib.Core.List.{_∷_, []};
 ghost use Rattle.record.specs.Answers.{tells};
 ghost use Rattle.record.specs.Leaves.{leaves};
 ghost use Rattle.calls.specs.Lending.{leavesOf};
-ghost use Rattle.calls.specs.Lending.Lending.{commit, recover, recoverRetained, refresh};
+ghost use Rattle.calls.specs.Lending.Lending.{commit, refresh};
 
 // The candidate becomes the accepted payload.
 pub fn commit(r: Record, accepted: &mut [u8], candidate: &mut [u8]) -> Stepped
@@ -18,35 +18,6 @@ pub fn commit(r: Record, accepted: &mut [u8], candidate: &mut [u8]) -> Stepped
     let found = Findings::of(areas::is_sized(accepted.len()) & areas::is_sized(candidate.len()));
     let stepped = step_ends::commit(r, found);
     moves::exchange(stepped, accepted, candidate)
-}
-
-// The snapshot in the exchange area becomes the accepted payload.
-pub fn recover(r: Record, accepted: &mut [u8], exchange: &mut [u8], length: usize) -> Stepped
-    ensures { λ s. ⌜ leaves (tells s) (now (accepted .exit) ∷ now (exchange .exit) ∷ [])
-        ≡ leavesOf r (recover (now (accepted .entry)) (now (exchange .entry)) length) ⌝ }
-{
-    let found = Findings::of(areas::is_sized(accepted.len()) & areas::is_sized(exchange.len()));
-    let stepped = step_ends::recover(r, found, length);
-    moves::exchange(stepped, accepted, exchange)
-}
-
-// The retained recovery payload becomes the accepted one, and stays; what was accepted is handed back in the exchange area.
-pub fn recover_retained(
-    r: Record,
-    accepted: &mut [u8],
-    recovery: &[u8],
-    exchange: &mut [u8],
-) -> Stepped
-    ensures { λ s. ⌜ leaves (tells s) (now (accepted .exit) ∷ now (recovery .exit) ∷ now (exchange .exit) ∷ [])
-        ≡ leavesOf r (recoverRetained (now (accepted .entry)) (now (recovery .entry)) (now (exchange .entry))) ⌝ }
-{
-    let found = Findings::of(
-        areas::is_sized(accepted.len())
-            & areas::is_sized(recovery.len())
-            & areas::is_sized(exchange.len()),
-    );
-    let stepped = step_ends::recover_retained(r, found);
-    moves::replace(stepped, accepted, recovery, exchange)
 }
 
 // The snapshot in the exchange area replaces the accepted payload; no revision is made.

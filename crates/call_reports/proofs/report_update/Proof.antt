@@ -4,5 +4,11 @@ use borrow.Author.Needs.{needs}
 use Rattle.call_reports.proofs.report_update.Statement.{statement}
 use Rattle.call_reports.proofs.report_update.Tie as tie
 
+returns : tie.Need-returns
+returns c =
+    let k = c .before .before in
+    let s = k .before .before in
+    by-table _ _ _ _ _ (k .store .ensures) (s .report-update .ensures) (s .before .of .ensures) (s .before .before .is-sized .ensures)
+
 pub report-update-spec : {M : Type 1} → statement M
-report-update-spec = tie.close (tie.spec (search needs) (search needs) (search needs) (search needs) (search needs) (λ c. search by-table))
+report-update-spec = tie.close (tie.spec (search needs) (search needs) (search needs) (search needs) (search needs) returns)
