@@ -1,33 +1,24 @@
--- `tour::reload` is safe and ends; no call changes the length of what it is lent. Assumes nothing.
-use native.Mathlib.Omega.{arith}
+-- `tour::reload` is safe and ends: each of its loops counts its turns down. Assumes nothing.
+use Prim.Native.Nat.{_≤_}
 use borrow.Author.Needs.{needs}
 use Rattle.tour.proofs.reload.Statement.{statement}
 use Rattle.tour.proofs.reload.Tie as tie
 
-same-length-2 : tie.Need-same-length-2
-same-length-2 c =
-    let m = c .before .before .before .before .before in
-    let v = m .before .before .before .before .before .before .before .before .before .before .before .before .before .before .before in
-    let b = v .before .before .before .before .before .before .before .before .before .before .before .before .before .before .before .before .before in
-    omega (arith, b .begin .kept, m .commit .kept)
+abbrev Inv-loop : tie.InvT-loop
+Inv-loop accepted candidate recovery exchange table₀ broken turns₀ last₀ table turns last = turns ≤ 64
 
-same-length-3 : tie.Need-same-length-3
-same-length-3 c =
-    let u = c .before .before .before .before .before .before .before .before .before .before .before .before .before in
-    let v = u .before .before .before .before .before .before .before in
-    let b = v .before .before .before .before .before .before .before .before .before .before .before .before .before .before .before .before .before in
-    omega (arith, b .begin .kept)
+abbrev μ-loop : tie.MeasureT-loop
+μ-loop accepted candidate recovery exchange table₀ broken turns₀ last₀ table turns last = turns
 
-same-length-4 : tie.Need-same-length-4
-same-length-4 c =
-    let u = c .before .before .before .before .before .before .before .before .before .before .before .before .before in
-    let v = u .before .before .before .before .before .before .before in
-    let b = v .before .before .before .before .before .before .before .before .before .before .before .before .before .before .before .before .before in
-    omega (arith, b .begin .kept, v .report-update .kept, u .report-update2 .kept)
+abbrev Inv-loop2 : tie.InvT-loop2
+Inv-loop2 accepted candidate recovery exchange table₀ broken turns₀ last₀ table turns last = turns ≤ 64
+
+abbrev μ-loop2 : tie.MeasureT-loop2
+μ-loop2 accepted candidate recovery exchange table₀ broken turns₀ last₀ table turns last = turns
 
 pub reload-spec : {M : Type 1} → statement M
 reload-spec =
     tie.close
-    (tie.spec (search needs) (search needs) (search needs) (search needs) (search needs) (search needs) (search needs) (search needs) (search needs)
+    (tie.spec Inv-loop μ-loop Inv-loop2 μ-loop2 (search needs) (search needs) (search needs) (search needs) (search needs) (search needs)
     (search needs) (search needs) (search needs) (search needs) (search needs) (search needs) (search needs) (search needs) (search needs)
-    (search needs) (search needs) (search needs) (search needs) (search needs) (search needs) same-length-2 same-length-3 same-length-4 (search needs))
+    (search needs) (search needs) (search needs) (search needs))
