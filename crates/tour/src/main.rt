@@ -1,25 +1,30 @@
 // The README's example, run on the proved calls. A plan is stamped at revision 7. A first reload goes through, and the stamp no
 // longer passes. The plan is stamped again at revision 8. The second action of a second reload fails: what was begun is undone,
-// the retained payload is recovered, and the stamp passes. A line is a call with its answer's number, or what the work says.
+// the retained payload is recovered, and the stamp passes. What each line says is in tell.rt.
 mod tell;
 
 use record::Answer;
 use record::Opening;
 use record::Record;
-use record::Reporting;
 use record::Stepped;
+use tell::DOMAIN;
+use tell::End;
+use tell::ended;
 use tell::restore;
-use tell::told;
 use tell::verdict;
 use tell::work;
 use transaction::ACTIONS;
 use transaction::AREA;
 use transaction::TABLE;
 
-// A further ticket is to be asked for.
+// The word that an action has in the table once it is in place, and the one that it has before that and once it is undone.
+const IN_PLACE: u64 = 11;
+
+const AS_BEFORE: u64 = 10;
+
+// Answers: a further ticket is to be asked for; nothing is left to ask for.
 const MORE: u64 = 23;
 
-// Nothing is left to ask for.
 const FINISHED: u64 = 24;
 
 // One action: ask for its ticket, do its work, report what became of it.
@@ -30,7 +35,7 @@ fn update(r: Record, table: &mut [u64; TABLE], broken: u32) -> Stepped {
         return asked;
     };
     let given = work(number, item, broken);
-    transaction::report_update(asked.state, given, table, 11)
+    transaction::report_update(asked.state, given, table, IN_PLACE)
 }
 
 // One undoing: ask which action is next, the last that was started, restore it, report it.
@@ -41,7 +46,7 @@ fn undo(r: Record, table: &mut [u64; TABLE]) -> Stepped {
         return asked;
     };
     let given = restore(number, item);
-    transaction::report_rollback(asked.state, given, table, 10)
+    transaction::report_rollback(asked.state, given, table, AS_BEFORE)
 }
 
 // Whether the last answer has this number.
@@ -50,7 +55,29 @@ fn answered(last: Stepped, number: u64) -> bool {
     answer.number() == number
 }
 
-// The agent's loop, over a reload that is begun.
+// Every action in turn, until one is not done or none is left.
+fn update_all(begun: Record, table: &mut [u64; TABLE], broken: u32) -> Stepped {
+    let mut turns = ACTIONS;
+    let mut last = update(begun, table, broken);
+    while turns > 0 && answered(last, MORE) {
+        last = update(last.state, table, broken);
+        turns -= 1;
+    }
+    last
+}
+
+// Every undoing in turn, until none is left.
+fn undo_all(r: Record, table: &mut [u64; TABLE]) -> Stepped {
+    let mut turns = ACTIONS;
+    let mut last = undo(r, table);
+    while turns > 0 && answered(last, MORE) {
+        last = undo(last.state, table);
+        turns -= 1;
+    }
+    last
+}
+
+// A reload that is begun, to its end: a commit, or a rollback and a recovery.
 fn reload(
     begun: Record,
     accepted: &mut [u8; AREA],
@@ -60,42 +87,37 @@ fn reload(
     table: &mut [u64; TABLE],
     broken: u32,
 ) -> Stepped {
-    let mut turns = ACTIONS;
-    let mut last = update(begun, table, broken);
-    while turns > 0 && answered(last, MORE) {
-        last = update(last.state, table, broken);
-        turns -= 1;
+    let worked = update_all(begun, table, broken);
+    if answered(worked, FINISHED) {
+        return transaction::commit(worked.state, accepted, candidate);
     }
-    if answered(last, FINISHED) {
-        return transaction::commit(last.state, accepted, candidate);
-    }
-    turns = ACTIONS;
-    last = undo(last.state, table);
-    while turns > 0 && answered(last, MORE) {
-        last = undo(last.state, table);
-        turns -= 1;
-    }
-    transaction::recover_retained(last.state, accepted, recovery, exchange)
+    let undone = undo_all(worked.state, table);
+    transaction::recover_retained(undone.state, accepted, recovery, exchange)
 }
 
-// Begins a reload of two actions.
-fn begin(
-    start: Record,
+// Begins a reload of two actions, and runs it to its end.
+fn round(
+    r: Record,
+    accepted: &mut [u8; AREA],
     candidate: &mut [u8; AREA],
     recovery: &mut [u8; AREA],
+    exchange: &mut [u8; AREA],
     table: &mut [u64; TABLE],
-) -> Record {
-    let pairs = [1u64, 10, 2, 10];
-    let begun = transaction::begin(
-        start,
+    broken: u32,
+) -> Stepped {
+    let new = [2u8; 44];
+    let old = [1u8; 40];
+    let pairs = [AS_BEFORE; 4];
+    let begun = transaction::begin(r, candidate, recovery, table, &new, &old, &pairs);
+    reload(
+        begun.state,
+        accepted,
         candidate,
         recovery,
+        exchange,
         table,
-        b"tail by inode and size",
-        b"tail by inode",
-        &pairs,
-    );
-    told(b"begin, two actions: ", begun)
+        broken,
+    )
 }
 
 fn main() {
@@ -104,36 +126,34 @@ fn main() {
     let mut recovery = [0u8; AREA];
     let mut exchange = [0u8; AREA];
     let mut table = [0u64; TABLE];
-    let given = Opening {
+    let start = Opening {
         revision: 7,
         serial: 0,
     };
-    let opened = transaction::open(given, &mut accepted, b"tail by inode");
-    let r = told(b"open at revision 7: ", opened);
-    let plan = transaction::stamp(r, 3);
-    let r = begin(r, &mut candidate, &mut recovery, &mut table);
-    let ended = reload(
-        r,
+    let old = [1u8; 40];
+    let first = transaction::open(start, &mut accepted, &old);
+    let plan = transaction::stamp(first.state, DOMAIN);
+    let last = round(
+        first.state,
         &mut accepted,
         &mut candidate,
-        &recovery,
+        &mut recovery,
         &mut exchange,
         &mut table,
         2,
     );
-    let r = told(b"commit: ", ended);
-    verdict(r, plan);
-    let plan = transaction::stamp(r, 3);
-    let r = begin(r, &mut candidate, &mut recovery, &mut table);
-    let ended = reload(
-        r,
+    ended(End::Commit, last);
+    verdict(last.state, plan);
+    let plan = transaction::stamp(last.state, DOMAIN);
+    let last = round(
+        last.state,
         &mut accepted,
         &mut candidate,
-        &recovery,
+        &mut recovery,
         &mut exchange,
         &mut table,
         1,
     );
-    let r = told(b"recover retained: ", ended);
-    verdict(r, plan);
+    ended(End::Recovery, last);
+    verdict(last.state, plan);
 }

@@ -7,17 +7,19 @@ use record::Stepped;
 use step_stamps::Checked;
 use step_stamps::Stamping;
 
+// The domain of the plan.
+pub const DOMAIN: u64 = 3;
+
 fn tell(what: &[u8], number: u64) {
     io::write_all(STDOUT_FILENO, what);
     io::print_decimal(STDOUT_FILENO, number);
     io::write_all(STDOUT_FILENO, b"\n");
 }
 
-// Writes the number of what a call answered, and hands its record on.
-pub fn told(what: &[u8], stepped: Stepped) -> Record {
-    let answer = stepped.answer;
-    tell(what, answer.number());
-    stepped.state
+// How a reload is to end.
+pub enum End {
+    Commit,
+    Recovery,
 }
 
 // The work of an action, which fails with code 5 where it is `broken`; and its report.
@@ -44,12 +46,22 @@ pub fn restore(ticket: u64, action: u32) -> Reporting {
     }
 }
 
-// Says 1 where the stamp of a plan still passes, and 0 where it does not.
+// Writes what the call that ended a reload answered.
+pub fn ended(by: End, last: Stepped) {
+    let answer = last.answer;
+    let number = answer.number();
+    match by {
+        End::Commit => tell(b"commit: ", number),
+        End::Recovery => tell(b"recover retained: ", number),
+    }
+}
+
+// Writes 1 where the stamp of a plan passes, and 0 where it does not.
 pub fn verdict(r: Record, plan: Stamping) {
     let Stamping::Taken(stamp) = plan else {
         return;
     };
-    let checked = transaction::check(r, 3, stamp);
+    let checked = transaction::check(r, DOMAIN, stamp);
     let passes = if let Checked::Passes = checked { 1 } else { 0 };
     tell(b"the stamp passes: ", passes);
 }
