@@ -83,7 +83,6 @@ fn reload(
     accepted: &mut [u8; AREA],
     candidate: &mut [u8; AREA],
     recovery: &[u8; AREA],
-    exchange: &mut [u8; AREA],
     table: &mut [u64; TABLE],
     broken: u32,
 ) -> Stepped {
@@ -92,7 +91,8 @@ fn reload(
         return transaction::commit(worked.state, accepted, candidate);
     }
     let undone = undo_all(worked.state, table);
-    transaction::recover_retained(undone.state, accepted, recovery, exchange)
+    let mut exchange = [0u8; AREA];
+    transaction::recover_retained(undone.state, accepted, recovery, &mut exchange)
 }
 
 // Begins a reload of two actions, and runs it to its end.
@@ -101,7 +101,6 @@ fn round(
     accepted: &mut [u8; AREA],
     candidate: &mut [u8; AREA],
     recovery: &mut [u8; AREA],
-    exchange: &mut [u8; AREA],
     table: &mut [u64; TABLE],
     broken: u32,
 ) -> Stepped {
@@ -109,22 +108,13 @@ fn round(
     let old = [1u8; 40];
     let pairs = [AS_BEFORE; 4];
     let begun = transaction::begin(r, candidate, recovery, table, &new, &old, &pairs);
-    reload(
-        begun.state,
-        accepted,
-        candidate,
-        recovery,
-        exchange,
-        table,
-        broken,
-    )
+    reload(begun.state, accepted, candidate, recovery, table, broken)
 }
 
 fn main() {
     let mut accepted = [0u8; AREA];
     let mut candidate = [0u8; AREA];
     let mut recovery = [0u8; AREA];
-    let mut exchange = [0u8; AREA];
     let mut table = [0u64; TABLE];
     let start = Opening {
         revision: 7,
@@ -138,7 +128,6 @@ fn main() {
         &mut accepted,
         &mut candidate,
         &mut recovery,
-        &mut exchange,
         &mut table,
         2,
     );
@@ -150,7 +139,6 @@ fn main() {
         &mut accepted,
         &mut candidate,
         &mut recovery,
-        &mut exchange,
         &mut table,
         1,
     );
