@@ -1,72 +1,114 @@
-// The README's example, played on the proved calls: a plan is stamped, a reload is begun, a late report is refused, the reload
-// is committed, and the old stamp no longer passes. Each line is a call and the number of its answer;
-// the last says 1 where the stamp passes and 0 where it does not.
-use libc::STDOUT_FILENO;
+// The README's example, run on the proved calls. A plan is stamped at revision 7. A first reload goes through, and the stamp no
+// longer passes. The plan is stamped again at revision 8. The second action of a second reload fails: what was begun is undone,
+// the retained payload is recovered, and the stamp passes. What each line says is in tell.rt.
+mod tell;
+
+use answers::Answer;
 use record::Opening;
-use record::Outcome;
 use record::Record;
-use record::Reporting;
 use record::Stepped;
-use step_stamps::Checked;
-use step_stamps::Stamping;
+use tell::DOMAIN;
+use tell::End;
+use tell::ended;
+use tell::restore;
+use tell::verdict;
+use tell::work;
+use transaction::ACTIONS;
 use transaction::AREA;
 use transaction::TABLE;
 
-fn tell(what: &[u8], number: u64) {
-    io::write_all(STDOUT_FILENO, what);
-    io::write_all(STDOUT_FILENO, b": ");
-    io::print_decimal(STDOUT_FILENO, number);
-    io::write_all(STDOUT_FILENO, b"\n");
+// The word that an action has in the table once it is in place, and the one that it has before that and once it is undone.
+const IN_PLACE: u64 = 11;
+
+const AS_BEFORE: u64 = 10;
+
+// Answers: a further ticket is to be asked for; nothing is left to ask for.
+const MORE: u64 = 23;
+
+const FINISHED: u64 = 24;
+
+// One action: ask for its ticket, do its work, report what became of it.
+fn update(r: Record, table: &mut [u64; TABLE], broken: u32) -> Stepped {
+    let asked = transaction::ask_update(r);
+    let answer = asked.answer;
+    let Answer::Ticket { number, item } = answer else {
+        return asked;
+    };
+    let given = work(number, item, broken);
+    transaction::report_update(asked.state, given, table, IN_PLACE)
 }
 
-fn said(what: &[u8], stepped: Stepped) -> Record {
-    let answer = stepped.answer;
-    tell(what, answer.number());
-    stepped.state
+// One undoing: ask which action is next, the last that was started, restore it, report it.
+fn undo(r: Record, table: &mut [u64; TABLE]) -> Stepped {
+    let asked = transaction::ask_rollback(r);
+    let answer = asked.answer;
+    let Answer::Ticket { number, item } = answer else {
+        return asked;
+    };
+    let given = restore(number, item);
+    transaction::report_rollback(asked.state, given, table, AS_BEFORE)
 }
 
-fn verdict(checked: Checked) {
-    match checked {
-        Checked::Passes => tell(b"the old stamp passes", 1),
-        Checked::Fails => tell(b"the old stamp passes", 0),
-        Checked::Refused(why) => tell(b"the stamp is refused", why.number()),
+// Whether the last answer has this number.
+fn answered(last: Stepped, number: u64) -> bool {
+    let answer = last.answer;
+    answer.number() == number
+}
+
+// Every action in turn, until one is not done or none is left.
+fn update_all(begun: Record, table: &mut [u64; TABLE], broken: u32) -> Stepped {
+    let mut turns = ACTIONS;
+    let mut last = update(begun, table, broken);
+    while turns > 0 && answered(last, MORE) {
+        last = update(last.state, table, broken);
+        turns -= 1;
     }
+    last
 }
 
-// A report that the work of a ticket is done.
-fn done(ticket: u64) -> Reporting {
-    Reporting {
-        ticket: ticket,
-        outcome: Outcome::Done,
+// Every undoing in turn, until none is left.
+fn undo_all(r: Record, table: &mut [u64; TABLE]) -> Stepped {
+    let mut turns = ACTIONS;
+    let mut last = undo(r, table);
+    while turns > 0 && answered(last, MORE) {
+        last = undo(last.state, table);
+        turns -= 1;
     }
+    last
 }
 
-// A reload of one action, with a report that comes late.
+// A reload that is begun, to its end: a commit, or a rollback and a recovery.
 fn reload(
-    start: Record,
-    accepted: &mut [u8],
-    candidate: &mut [u8],
-    recovery: &mut [u8],
-    table: &mut [u64],
-) -> Record {
-    let pairs = [1u64, 10];
-    let begun = transaction::begin(
-        start,
-        candidate,
-        recovery,
-        table,
-        b"tail by inode and size",
-        b"tail by inode",
-        &pairs,
-    );
-    let r = said(b"begin, one action", begun);
-    let r = said(b"ask update: ticket 1", transaction::ask_update(r));
-    let r = said(b"ask update again: ticket 2", transaction::ask_update(r));
-    let late = transaction::report_update(r, done(1), table, 11);
-    let r = said(b"late report of ticket 1", late);
-    let taken = transaction::report_update(r, done(2), table, 11);
-    let r = said(b"report of ticket 2", taken);
-    said(b"commit", transaction::commit(r, accepted, candidate))
+    begun: Record,
+    accepted: &mut [u8; AREA],
+    candidate: &mut [u8; AREA],
+    recovery: &[u8; AREA],
+    table: &mut [u64; TABLE],
+    broken: u32,
+) -> Stepped {
+    let worked = update_all(begun, table, broken);
+    if answered(worked, FINISHED) {
+        return transaction::commit(worked.state, accepted, candidate);
+    }
+    let undone = undo_all(worked.state, table);
+    let mut exchange = [0u8; AREA];
+    transaction::recover_retained(undone.state, accepted, recovery, &mut exchange)
+}
+
+// Begins a reload of two actions, and runs it to its end.
+fn round(
+    r: Record,
+    accepted: &mut [u8; AREA],
+    candidate: &mut [u8; AREA],
+    recovery: &mut [u8; AREA],
+    table: &mut [u64; TABLE],
+    broken: u32,
+) -> Stepped {
+    let new = [2u8; 44];
+    let old = [1u8; 40];
+    let pairs = [AS_BEFORE; 4];
+    let begun = transaction::begin(r, candidate, recovery, table, &new, &old, &pairs);
+    reload(begun.state, accepted, candidate, recovery, table, broken)
 }
 
 fn main() {
@@ -74,15 +116,32 @@ fn main() {
     let mut candidate = [0u8; AREA];
     let mut recovery = [0u8; AREA];
     let mut table = [0u64; TABLE];
-    let given = Opening {
+    let start = Opening {
         revision: 7,
         serial: 0,
     };
-    let opened = transaction::open(given, &mut accepted, b"tail by inode");
-    let r = said(b"open at revision 7", opened);
-    let Stamping::Taken(plan) = transaction::stamp(r, 3) else {
-        return;
-    };
-    let r = reload(r, &mut accepted, &mut candidate, &mut recovery, &mut table);
-    verdict(transaction::check(r, 3, plan));
+    let old = [1u8; 40];
+    let first = transaction::open(start, &mut accepted, &old);
+    let plan = transaction::stamp(first.state, DOMAIN);
+    let last = round(
+        first.state,
+        &mut accepted,
+        &mut candidate,
+        &mut recovery,
+        &mut table,
+        2,
+    );
+    ended(End::Commit, last);
+    verdict(last.state, plan);
+    let plan = transaction::stamp(last.state, DOMAIN);
+    let last = round(
+        last.state,
+        &mut accepted,
+        &mut candidate,
+        &mut recovery,
+        &mut table,
+        1,
+    );
+    ended(End::Recovery, last);
+    verdict(last.state, plan);
 }
