@@ -1,0 +1,18 @@
+-- `text::writing::put_text` is safe and ends: it counts up to the length of the text. Assumes nothing.
+use mathlib.Core.Path.{_≡_}
+use Prim.Native.Nat.{_-_}
+use lib.ListN.{length}
+use borrow.Author.Needs.{needs}
+use Rattle.text.proofs.writing.put_text.Statement.{statement}
+use Rattle.text.proofs.writing.put_text.Tie as tie
+
+abbrev Inv-loop : tie.InvT-loop
+Inv-loop buffer₀ written text at₀ i₀ buffer at i = length buffer ≡ length buffer₀
+
+abbrev μ-loop : tie.MeasureT-loop
+μ-loop buffer₀ written text at₀ i₀ buffer at i = length text - i
+
+pub put-text-spec : {M : Type 1} → statement M
+put-text-spec =
+    tie.close
+    (tie.spec Inv-loop μ-loop (search needs) (search needs) (search needs) (search needs) (search needs) (search needs) (search needs) (search needs))

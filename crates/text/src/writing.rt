@@ -1,0 +1,53 @@
+// Writing to a buffer of which the first `written` bytes are in use. Every function answers how many are in use now; what does not fit
+// any more is left out.
+
+// The first n bytes, or all where there are fewer.
+pub fn front(bytes: &[u8], n: usize) -> &[u8] {
+    if n < bytes.len() {
+        return &bytes[0..n];
+    }
+    bytes
+}
+
+pub fn put_byte(buffer: &mut [u8], written: usize, byte: u8) -> usize {
+    if written < buffer.len() {
+        buffer[written] = byte;
+        return written + 1;
+    }
+    written
+}
+
+pub fn put_text(buffer: &mut [u8], written: usize, text: &[u8]) -> usize {
+    let mut at = written;
+    let mut i = 0;
+    while i < text.len() {
+        at = put_byte(buffer, at, text[i]);
+        i += 1;
+    }
+    at
+}
+
+fn put_space(buffer: &mut [u8], written: usize, due: bool) -> usize {
+    if due {
+        return put_byte(buffer, written, b' ');
+    }
+    written
+}
+
+pub fn put_decimal(buffer: &mut [u8], written: usize, number: u64) -> usize {
+    let mut digits = [0u8; 20];
+    let count = io::decimal(number, &mut digits);
+    put_text(buffer, written, &digits[..count])
+}
+
+// A word, which may be empty, then numbers, with a space between any two of them, and a newline.
+pub fn put_line(buffer: &mut [u8], written: usize, word: &[u8], numbers: &[u64]) -> usize {
+    let mut at = put_text(buffer, written, word);
+    let mut i = 0;
+    while i < numbers.len() {
+        at = put_space(buffer, at, (i != 0) | (word.len() != 0));
+        at = put_decimal(buffer, at, numbers[i]);
+        i += 1;
+    }
+    put_byte(buffer, at, b'\n')
+}
