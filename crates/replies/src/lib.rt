@@ -1,0 +1,116 @@
+// What a call answers as a row of numbers: document 01's number of the answer, and the values that follow it.
+use record::Answer;
+use record::Refusal;
+use record::Was;
+use status::Marked;
+use step_stamps::Checked;
+use step_stamps::Stamping;
+ghost use mathlib.Core.Path.{_≡_};
+ghost use mathlib.Core.List.{[]};
+ghost use Rattle.record.specs.Answers.{says};
+ghost use Rattle.record.specs.declared.Answer.the-variants.{Done, Refused};
+ghost use Rattle.step_stamps.specs.Stamping.{saysStamping, saysChecked};
+ghost use Rattle.status.specs.Status.{saysMarked};
+ghost use Rattle.replies.specs.Replies.{rowOf, reply, replyOf};
+
+// The most numbers that an answer has: its own and three values.
+pub const MOST: usize = 4;
+
+// The first `count` numbers are the answer's, and those after them zeros.
+pub struct Reply {
+    pub count: usize,
+    pub numbers: [u64; MOST],
+}
+
+fn row(count: usize, numbers: [u64; MOST]) -> Reply
+    ensures { λ r. ⌜ r ≡ rowOf count numbers ⌝ }
+{
+    Reply {
+        count: count,
+        numbers: numbers,
+    }
+}
+
+// A number without values.
+fn bare(number: u64) -> Reply
+    ensures { λ r. ⌜ r ≡ reply number [] ⌝ }
+{
+    row(1, [number, 0, 0, 0])
+}
+
+fn of_done(was: Was) -> Reply
+    ensures { λ r. ⌜ r ≡ replyOf (says (Done was)) ⌝ }
+{
+    let number = Answer::Done(was).number();
+    match was {
+        Was::Nothing => bare(number),
+        Was::One(a) => row(2, [number, a as u64, 0, 0]),
+        Was::Three(a, b, c) => row(4, [number, a as u64, b as u64, c as u64]),
+    }
+}
+
+fn of_refusal(why: Refusal) -> Reply
+    ensures { λ r. ⌜ r ≡ replyOf (says (Refused why)) ⌝ }
+{
+    bare(why.number())
+}
+
+// A call of the transaction or of the recorder.
+pub fn of_answer(answer: Answer) -> Reply
+    ensures { λ r. ⌜ r ≡ replyOf (says answer) ⌝ }
+{
+    let number = answer.number();
+    match answer {
+        Answer::Done(was) => of_done(was),
+        Answer::Ticket {
+            number: ticket,
+            item,
+        } => row(3, [number, ticket, item as u64, 0]),
+        Answer::Failed(code) => row(2, [number, code, 0, 0]),
+        Answer::Refused(why) => of_refusal(why),
+        Answer::Waiting => bare(number),
+        Answer::More => bare(number),
+        Answer::Finished => bare(number),
+    }
+}
+
+// A stamp that was asked for.
+pub fn of_stamp(stamping: Stamping) -> Reply
+    ensures { λ r. ⌜ r ≡ replyOf (saysStamping stamping) ⌝ }
+{
+    match stamping {
+        Stamping::Taken(stamp) => {
+            row(
+                3,
+                [
+                    Answer::Done(Was::Nothing).number(),
+                    stamp.domain,
+                    stamp.revision,
+                    0,
+                ],
+            )
+        }
+        Stamping::Refused(why) => of_refusal(why),
+    }
+}
+
+// A check of a stamp: 1 where it passes, else 0.
+pub fn of_check(checked: Checked) -> Reply
+    ensures { λ r. ⌜ r ≡ replyOf (saysChecked checked) ⌝ }
+{
+    match checked {
+        Checked::Passes => of_done(Was::One(1)),
+        Checked::Fails => of_done(Was::One(0)),
+        Checked::Refused(why) => of_refusal(why),
+    }
+}
+
+// A call of the status part.
+pub fn of_mark(marked: Marked) -> Reply
+    ensures { λ r. ⌜ r ≡ replyOf (saysMarked marked) ⌝ }
+{
+    match marked {
+        Marked::Done => of_done(Was::Nothing),
+        Marked::Refused(why) => of_refusal(why),
+    }
+}
