@@ -55,17 +55,17 @@ fn take(read: &[u8], from: usize, line: &mut [u8], so_far: usize) -> Taken {
 }
 
 // Reads the chunk anew, and answers how many bytes came. An input that cannot be read is at its end.
-fn refill(chunk: &mut [u8], program: &[u8]) -> usize {
+fn refill(chunk: &mut [u8], what: &[u8]) -> usize {
     let got = libc::read(libc::STDIN_FILENO, chunk);
     if got < 0 {
-        os::fail(program);
+        os::fail(what);
     }
     io::count(got, chunk)
 }
 
 // The next line, without its newline, goes to `line`. Where the input ends before any byte of it, its length is 0 and `ended` holds.
 // Nothing says that an input ends, and a proved loop has to: it counts its turns down, from a number that no run uses up.
-pub fn next_line(chunk: &mut [u8], line: &mut [u8], place: Place, program: &[u8]) -> Place {
+pub fn next_line(chunk: &mut [u8], line: &mut [u8], place: Place, what: &[u8]) -> Place {
     let mut at = place.at;
     let mut filled = place.filled;
     let mut count = 0;
@@ -76,7 +76,7 @@ pub fn next_line(chunk: &mut [u8], line: &mut [u8], place: Place, program: &[u8]
             return standing(taken.at, filled, taken.length, false);
         }
         count = taken.length;
-        filled = refill(chunk, program);
+        filled = refill(chunk, what);
         at = 0;
         if filled == 0 {
             return standing(0, 0, count, true);

@@ -1,5 +1,5 @@
-// Standard input line by line, and standard output by way of a buffer, for programs. A failure to read or write ends in a word on
-// standard error, which names the program; what was read until then stands.
+// Standard input line by line, and standard output by way of a buffer, for programs. A failure to read or write is told on standard
+// error; an input that fails is at its end. No contract can speak of what is read or written.
 mod input;
 mod output;
 

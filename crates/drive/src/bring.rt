@@ -1,98 +1,175 @@
 // The calls that bring payloads in: open, begin, begin structural, edit and report structure. Each makes the payloads and the words that
-// its line names, and then the call: where no log is lent it goes to the transaction itself, and where one is lent, all but an edit
-// to the recorder. Areas go by the letters of a script: a accepted, c candidate, r recovery, t the table, l the log.
-use super::AREA_HELD;
-use super::NUMBERS;
-use super::TABLE_HELD;
-use super::held::payload;
-use super::held::words_of;
+// its line names, in scratch, and then the call on what is lent: where no log is lent it goes to the transaction itself, and where one
+// is lent, all but an edit to the recorder. What is held goes by the letters of a script: a accepted, c candidate, r recovery, t the
+// table, l the log; new, old and pairs are scratch.
+use super::held::ACCEPTED;
+use super::held::ACTIONS;
+use super::held::CANDIDATE;
+use super::held::Counts;
+use super::held::LOG;
+use super::held::RECOVERY;
+use super::held::part;
+use super::held::part_of_words;
 use record::Opening;
-use record::Outcome;
 use record::Record;
 use record::Reporting;
 use record::Stepped;
+use script::Bringing;
+use script::HELD_AREA;
+use script::HELD_LOG;
+use script::HELD_TABLE;
+use script::Seeded;
+use script::payload;
+use script::words;
 
-// The outcome of a number that the template holds to 0, 1 or 2; the code is that of a failure.
-fn outcome(number: u64, code: u64) -> Outcome {
-    match number {
-        0 => Outcome::Waiting,
-        1 => Outcome::Failed(code),
-        _ => Outcome::Done,
-    }
-}
-
-// What a report is given: its ticket, and its outcome with the code.
-pub(crate) fn reporting(numbers: [u64; NUMBERS]) -> Reporting {
-    let outcome = outcome(numbers[1], numbers[2]);
-    Reporting {
-        ticket: numbers[0],
-        outcome: outcome,
-    }
-}
-
-pub(crate) fn open(numbers: [u64; NUMBERS], l: &mut [u64], a: &mut [u8]) -> Stepped {
-    let given = Opening {
-        revision: numbers[0],
-        serial: numbers[1],
-    };
-    let mut bytes = [0u8; AREA_HELD];
-    let new = payload(&mut bytes, numbers[2], numbers[3]);
+fn open(
+    given: Opening,
+    named: Seeded,
+    lent: Counts,
+    l: &mut [u64],
+    a: &mut [u8],
+    new: &mut [u8],
+) -> Stepped {
+    let l = part_of_words(l, lent[LOG]);
+    let a = part(a, lent[ACCEPTED]);
+    let new = payload(new, named);
     if l.len() == 0 {
         return transaction::open(given, a, new);
     }
     recorder::open(given, l, a, new)
 }
 
-// A begin, structural or not.
-pub(crate) fn begin(
+// A begin on what it is lent, structural or not.
+fn begin_on(
     structural: bool,
     record: Record,
-    numbers: [u64; NUMBERS],
     l: &mut [u64],
     c: &mut [u8],
     r: &mut [u8],
     t: &mut [u64],
+    new: &[u8],
+    old: &[u8],
+    pairs: &[u64],
 ) -> Stepped {
-    let mut first = [0u8; AREA_HELD];
-    let mut second = [0u8; AREA_HELD];
-    let mut third = [0u64; TABLE_HELD];
-    let new = payload(&mut first, numbers[0], numbers[1]);
-    let old = payload(&mut second, numbers[2], numbers[3]);
-    let pairs = words_of(&mut third, numbers[4], numbers[5]);
-    if structural {
-        if l.len() == 0 {
-            return transaction::begin_structural(record, c, r, t, new, old, pairs);
-        }
-        return recorder::begin_structural(record, l, c, r, t, new, old, pairs);
-    }
     if l.len() == 0 {
-        return transaction::begin(record, c, r, t, new, old, pairs);
+        return transaction::begin_as(structural, record, c, r, t, new, old, pairs);
+    }
+    if structural {
+        return recorder::begin_structural(record, l, c, r, t, new, old, pairs);
     }
     recorder::begin(record, l, c, r, t, new, old, pairs)
 }
 
-pub(crate) fn edit(record: Record, numbers: [u64; NUMBERS], c: &mut [u8], r: &mut [u8]) -> Stepped {
-    let mut first = [0u8; AREA_HELD];
-    let mut second = [0u8; AREA_HELD];
-    let new = payload(&mut first, numbers[0], numbers[1]);
-    let old = payload(&mut second, numbers[2], numbers[3]);
-    transaction::edit(record, c, r, new, old)
+// The lengths and seeds of what a begin brings.
+struct Staging {
+    structural: bool,
+    candidate: Seeded,
+    recovery: Seeded,
+    pairs: Seeded,
 }
 
-pub(crate) fn report_structure(
+fn begin(
+    named: Staging,
     record: Record,
-    numbers: [u64; NUMBERS],
+    lent: Counts,
     l: &mut [u64],
     c: &mut [u8],
     r: &mut [u8],
+    t: &mut [u64],
+    new: &mut [u8],
+    old: &mut [u8],
+    pairs: &mut [u64],
 ) -> Stepped {
-    let given = reporting(numbers);
-    let mut first = [0u8; AREA_HELD];
-    let mut second = [0u8; AREA_HELD];
-    let new = payload(&mut first, numbers[3], numbers[4]);
-    let old = payload(&mut second, numbers[5], numbers[6]);
+    let l = part_of_words(l, lent[LOG]);
+    let c = part(c, lent[CANDIDATE]);
+    let r = part(r, lent[RECOVERY]);
+    let t = part_of_words(t, lent[ACTIONS]);
+    let new = payload(new, named.candidate);
+    let old = payload(old, named.recovery);
+    let pairs = words(pairs, named.pairs);
+    begin_on(named.structural, record, l, c, r, t, new, old, pairs)
+}
+
+fn edit(
+    candidate: Seeded,
+    recovery: Seeded,
+    record: Record,
+    lent: Counts,
+    c: &mut [u8],
+    r: &mut [u8],
+    new: &mut [u8],
+    old: &mut [u8],
+) -> Stepped {
+    let c = part(c, lent[CANDIDATE]);
+    let r = part(r, lent[RECOVERY]);
+    let new = payload(new, candidate);
+    let old = payload(old, recovery);
+    transaction::edit(record, c, r, new, old)
+}
+
+fn report_structure(
+    given: Reporting,
+    candidate: Seeded,
+    recovery: Seeded,
+    record: Record,
+    lent: Counts,
+    l: &mut [u64],
+    c: &mut [u8],
+    r: &mut [u8],
+    new: &mut [u8],
+    old: &mut [u8],
+) -> Stepped {
+    let l = part_of_words(l, lent[LOG]);
+    let c = part(c, lent[CANDIDATE]);
+    let r = part(r, lent[RECOVERY]);
+    let new = payload(new, candidate);
+    let old = payload(old, recovery);
     if l.len() == 0 {
         return transaction::report_structure(record, given, c, r, new, old);
     }
     recorder::report_structure(record, given, l, c, r, new, old)
+}
+
+pub(crate) fn bring(
+    which: Bringing,
+    record: Record,
+    lent: Counts,
+    l: &mut [u64; HELD_LOG],
+    a: &mut [u8; HELD_AREA],
+    c: &mut [u8; HELD_AREA],
+    r: &mut [u8; HELD_AREA],
+    t: &mut [u64; HELD_TABLE],
+    new: &mut [u8; HELD_AREA],
+    old: &mut [u8; HELD_AREA],
+    pairs: &mut [u64; HELD_TABLE],
+) -> Stepped {
+    match which {
+        Bringing::Open {
+            opening,
+            payload: named,
+        } => open(opening, named, lent, l, a, new),
+        Bringing::Begin {
+            structural,
+            candidate,
+            recovery,
+            pairs: named,
+        } => {
+            let staging = Staging {
+                structural: structural,
+                candidate: candidate,
+                recovery: recovery,
+                pairs: named,
+            };
+            begin(staging, record, lent, l, c, r, t, new, old, pairs)
+        }
+        Bringing::Edit {
+            candidate,
+            recovery,
+        } => edit(candidate, recovery, record, lent, c, r, new, old),
+        Bringing::ReportStructure {
+            given,
+            candidate,
+            recovery,
+        } => report_structure(given, candidate, recovery, record, lent, l, c, r, new, old),
+    }
 }

@@ -1,43 +1,46 @@
-// Playing a script: what the driver holds, line after line, and what each command is lent of it.
-use super::AREA_HELD;
-use super::LOG_HELD;
-use super::MARKS_HELD;
-use super::NUMBERS;
-use super::TABLE_HELD;
+// Running a script: what the driver holds, line after line, and what each command is handed of it. By the letters of a script: areas a,
+// c, r and x, the table t, the log l, the groups g and the status s.
 use super::answers::After;
 use super::answers::Told;
 use super::answers::after_call;
-use super::answers::after_mark;
 use super::answers::leaving;
-use super::bring::begin;
-use super::bring::edit;
-use super::bring::open;
-use super::bring::report_structure;
-use super::commands::Calling;
-use super::commands::Command;
-use super::commands::Line;
-use super::held::ACCEPTED;
-use super::held::ACTIONS;
-use super::held::CANDIDATE;
+use super::answers::replying;
+use super::bring::bring;
+use super::end::end;
+use super::end::mark;
 use super::held::Counts;
-use super::held::EXCHANGE;
-use super::held::LOG;
-use super::held::RECOVERY;
 use super::held::lent_first;
-use super::held::part;
-use super::held::part_of_words;
-use super::input;
-use super::output::flush_before;
+use super::output::ROOM;
 use super::output::put_told;
-use super::plain;
-use super::steps::ask;
-use super::steps::exchange;
-use super::steps::mark;
-use super::steps::report;
-use super::whole;
+use super::prepare::prepare;
+use super::show::digests;
+use super::work::work;
+use console::flush_before;
+use console::next_line;
 use record::Opening;
 use record::Record;
-use record::Stepped;
+use replies::of_check;
+use replies::of_mark;
+use replies::of_stamp;
+use script::Command;
+use script::HELD_AREA;
+use script::HELD_LOG;
+use script::HELD_MARKS;
+use script::HELD_TABLE;
+use script::LONGEST;
+use script::Planning;
+use script::read;
+use text::front;
+
+// A line is kept up to one byte more than it may have, so that one that is too long is seen to be so.
+const LINE: usize = LONGEST + 1;
+
+// How many bytes are read, and written, at once.
+const CHUNK: usize = 65536;
+
+fn command_of(bytes: &[u8], length: usize) -> Command {
+    read(front(bytes, length))
+}
 
 // The record of an opening at 0, 0 with an empty payload.
 fn first_record() -> Record {
@@ -46,109 +49,129 @@ fn first_record() -> Record {
     opened.state
 }
 
-// A call, on what it is lent.
-fn call_on(
-    which: Calling,
-    record: Record,
-    numbers: [u64; NUMBERS],
-    l: &mut [u64],
-    a: &mut [u8],
-    c: &mut [u8],
-    r: &mut [u8],
-    x: &mut [u8],
-    t: &mut [u64],
-) -> Stepped {
+// Stamps and their checks are lent nothing, and leave the record as it is.
+fn plan(which: Planning, record: Record, lent: Counts) -> After {
     match which {
-        Calling::Open => open(numbers, l, a),
-        Calling::Begin => begin(false, record, numbers, l, c, r, t),
-        Calling::BeginStructural => begin(true, record, numbers, l, c, r, t),
-        Calling::Edit => edit(record, numbers, c, r),
-        Calling::ReportStructure => report_structure(record, numbers, l, c, r),
-        Calling::Ask(which) => ask(which, record, l),
-        Calling::Report(which) => report(which, record, numbers, l, t),
-        Calling::Exchange(which) => exchange(which, record, numbers[0] as usize, l, a, c, r, x),
+        Planning::Stamp(domain) => {
+            replying(record, lent, of_stamp(transaction::stamp(record, domain)))
+        }
+        Planning::Check { domain, stamp } => {
+            replying(
+                record,
+                lent,
+                of_check(transaction::check(record, domain, stamp)),
+            )
+        }
     }
 }
 
-// A call, with the parts of what the driver holds that are lent.
-fn call(
-    which: Calling,
+// One command, over all that is held, and scratch for the payloads and words that it names.
+fn perform(
+    command: Command,
     record: Record,
     lent: Counts,
-    numbers: [u64; NUMBERS],
-    a: &mut [u8],
-    c: &mut [u8],
-    r: &mut [u8],
-    x: &mut [u8],
-    t: &mut [u64],
-    l: &mut [u64],
-) -> Stepped {
-    let l = part_of_words(l, lent[LOG]);
-    let a = part(a, lent[ACCEPTED]);
-    let c = part(c, lent[CANDIDATE]);
-    let r = part(r, lent[RECOVERY]);
-    let x = part(x, lent[EXCHANGE]);
-    let t = part_of_words(t, lent[ACTIONS]);
-    call_on(which, record, numbers, l, a, c, r, x, t)
-}
-
-// One line, over all that the driver holds: areas a, c, r and x, the table t, the log l, the groups g and the status s.
-fn perform(
-    line: Line,
-    before: After,
-    a: &mut [u8; AREA_HELD],
-    c: &mut [u8; AREA_HELD],
-    r: &mut [u8; AREA_HELD],
-    x: &mut [u8; AREA_HELD],
-    t: &mut [u64; TABLE_HELD],
-    l: &mut [u64; LOG_HELD],
-    g: &mut [u8; MARKS_HELD],
-    s: &mut [u8; MARKS_HELD],
+    a: &mut [u8; HELD_AREA],
+    c: &mut [u8; HELD_AREA],
+    r: &mut [u8; HELD_AREA],
+    x: &mut [u8; HELD_AREA],
+    t: &mut [u64; HELD_TABLE],
+    l: &mut [u64; HELD_LOG],
+    g: &mut [u8; HELD_MARKS],
+    s: &mut [u8; HELD_MARKS],
+    new: &mut [u8; HELD_AREA],
+    old: &mut [u8; HELD_AREA],
+    pairs: &mut [u64; HELD_TABLE],
 ) -> After {
-    let record = before.record;
-    let lent = before.lent;
-    let numbers = line.numbers;
-    let command = line.command;
     match command {
-        Command::Plain(which) => plain::perform(which, record, lent, numbers),
-        Command::Whole(which) => {
-            let told = whole::perform(which, numbers, t, l, a, c, r, x, g, s);
-            leaving(record, lent, told)
+        Command::Nothing => leaving(record, lent, Told::Nothing),
+        Command::Bad => leaving(record, lent, Told::Bad),
+        Command::Show => {
+            let digests = digests(a, c, r, x, t, l, g, s);
+            leaving(record, lent, Told::Shown(digests))
         }
-        Command::Call(which) => {
-            after_call(call(which, record, lent, numbers, a, c, r, x, t, l), lent)
+        Command::Prepare(which) => prepare(which, record, lent, a, c, r, x, t, l, g, s),
+        Command::Bring(which) => {
+            after_call(
+                bring(which, record, lent, l, a, c, r, t, new, old, pairs),
+                lent,
+            )
         }
-        Command::Mark(which) => after_mark(record, lent, mark(which, lent, numbers, g, s)),
+        Command::Work(which) => after_call(work(which, record, lent, l, t), lent),
+        Command::End(which) => after_call(end(which, record, lent, l, a, c, r, x), lent),
+        Command::Plan(which) => plan(which, record, lent),
+        Command::Mark(which) => replying(record, lent, of_mark(mark(which, lent, g, s))),
     }
 }
 
 // Line after line, until the input ends.
-pub(crate) fn play() {
-    let a = &mut [0u8; AREA_HELD];
-    let c = &mut [0u8; AREA_HELD];
-    let r = &mut [0u8; AREA_HELD];
-    let x = &mut [0u8; AREA_HELD];
-    let t = &mut [0u64; TABLE_HELD];
-    let l = &mut [0u64; LOG_HELD];
-    let g = &mut [0u8; MARKS_HELD];
-    let s = &mut [0u8; MARKS_HELD];
-    let mut chunk = io::large_buffer();
-    let mut buffer = io::large_buffer();
+fn run(
+    a: &mut [u8; HELD_AREA],
+    c: &mut [u8; HELD_AREA],
+    r: &mut [u8; HELD_AREA],
+    x: &mut [u8; HELD_AREA],
+    t: &mut [u64; HELD_TABLE],
+    l: &mut [u64; HELD_LOG],
+    g: &mut [u8; HELD_MARKS],
+    s: &mut [u8; HELD_MARKS],
+    new: &mut [u8; HELD_AREA],
+    old: &mut [u8; HELD_AREA],
+    pairs: &mut [u64; HELD_TABLE],
+    bytes: &mut [u8; LINE],
+    chunk: &mut [u8; CHUNK],
+    buffer: &mut [u8; CHUNK],
+) {
     let mut state = leaving(first_record(), lent_first(), Told::Nothing);
-    let mut place = input::start();
+    let mut place = console::start();
     let mut written = 0;
     let mut number = 0u64;
     while number < u64::MAX {
         number += 1;
-        written = flush_before(place.at == place.filled, &buffer, written);
-        let next = input::next_command(&mut chunk, place);
-        place = next.place;
+        let due = place.at == place.filled;
+        written = flush_before(due, buffer, written, ROOM, b"drive: standard output");
+        place = next_line(chunk, bytes, place, b"drive: standard input");
         // The end: nothing was left to read, so all that waited has been written out.
         if place.ended & (place.length == 0) {
             return;
         }
-        let line = next.line;
-        state = perform(line, state, a, c, r, x, t, l, g, s);
-        written = put_told(&mut buffer, written, state, number);
+        let command = command_of(bytes, place.length);
+        let record = state.record;
+        let lent = state.lent;
+        state = perform(
+            command,
+            record,
+            lent,
+            a,
+            c,
+            r,
+            x,
+            t,
+            l,
+            g,
+            s,
+            new,
+            old,
+            pairs,
+        );
+        written = put_told(buffer, written, state, number);
     }
+}
+
+// Runs the script on standard input.
+pub(crate) fn play() {
+    run(
+        &mut [0u8; HELD_AREA],
+        &mut [0u8; HELD_AREA],
+        &mut [0u8; HELD_AREA],
+        &mut [0u8; HELD_AREA],
+        &mut [0u64; HELD_TABLE],
+        &mut [0u64; HELD_LOG],
+        &mut [0u8; HELD_MARKS],
+        &mut [0u8; HELD_MARKS],
+        &mut [0u8; HELD_AREA],
+        &mut [0u8; HELD_AREA],
+        &mut [0u64; HELD_TABLE],
+        &mut [0u8; LINE],
+        &mut [0u8; CHUNK],
+        &mut [0u8; CHUNK],
+    );
 }

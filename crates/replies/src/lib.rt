@@ -13,21 +13,24 @@ ghost use Rattle.step_stamps.specs.Stamping.{saysStamping, saysChecked};
 ghost use Rattle.status.specs.Status.{saysMarked};
 ghost use Rattle.replies.specs.Replies.{rowOf, reply, replyOf};
 
-// The most numbers that an answer has: its own and three values.
-pub const MOST: usize = 4;
-
-// The first `count` numbers are the answer's, and those after them zeros.
+// The number of an answer and its values, `count` numbers in all; those after them are zeros. No answer has more than three values.
 pub struct Reply {
+    pub number: u64,
     pub count: usize,
-    pub numbers: [u64; MOST],
+    pub first: u64,
+    pub second: u64,
+    pub third: u64,
 }
 
-fn row(count: usize, numbers: [u64; MOST]) -> Reply
-    ensures { λ r. ⌜ r ≡ rowOf count numbers ⌝ }
+fn row(number: u64, count: usize, first: u64, second: u64, third: u64) -> Reply
+    ensures { λ r. ⌜ r ≡ rowOf number count first second third ⌝ }
 {
     Reply {
+        number: number,
         count: count,
-        numbers: numbers,
+        first: first,
+        second: second,
+        third: third,
     }
 }
 
@@ -35,7 +38,7 @@ fn row(count: usize, numbers: [u64; MOST]) -> Reply
 fn bare(number: u64) -> Reply
     ensures { λ r. ⌜ r ≡ reply number [] ⌝ }
 {
-    row(1, [number, 0, 0, 0])
+    row(number, 1, 0, 0, 0)
 }
 
 fn of_done(was: Was) -> Reply
@@ -44,8 +47,8 @@ fn of_done(was: Was) -> Reply
     let number = Answer::Done(was).number();
     match was {
         Was::Nothing => bare(number),
-        Was::One(a) => row(2, [number, a as u64, 0, 0]),
-        Was::Three(a, b, c) => row(4, [number, a as u64, b as u64, c as u64]),
+        Was::One(a) => row(number, 2, a as u64, 0, 0),
+        Was::Three(a, b, c) => row(number, 4, a as u64, b as u64, c as u64),
     }
 }
 
@@ -65,8 +68,8 @@ pub fn of_answer(answer: Answer) -> Reply
         Answer::Ticket {
             number: ticket,
             item,
-        } => row(3, [number, ticket, item as u64, 0]),
-        Answer::Failed(code) => row(2, [number, code, 0, 0]),
+        } => row(number, 3, ticket, item as u64, 0),
+        Answer::Failed(code) => row(number, 2, code, 0, 0),
         Answer::Refused(why) => of_refusal(why),
         Answer::Waiting => bare(number),
         Answer::More => bare(number),
@@ -80,15 +83,8 @@ pub fn of_stamp(stamping: Stamping) -> Reply
 {
     match stamping {
         Stamping::Taken(stamp) => {
-            row(
-                3,
-                [
-                    Answer::Done(Was::Nothing).number(),
-                    stamp.domain,
-                    stamp.revision,
-                    0,
-                ],
-            )
+            let number = Answer::Done(Was::Nothing).number();
+            row(number, 3, stamp.domain, stamp.revision, 0)
         }
         Stamping::Refused(why) => of_refusal(why),
     }
