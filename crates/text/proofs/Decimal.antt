@@ -9,9 +9,10 @@ use borrow.Author.Tests.{lt-ltb, le-ltb, leb-true, leb-false}
 use Rattle.choice.proofs.Picks.{yes, no}
 use Rattle.choice.proofs.Tests.{test}
 use Rattle.io.specs.Digits.{glyph, digits, Fewest}
+use Rattle.text.specs.Reading.{zeroByte}
 use Rattle.text.specs.Writing.{decimalWithin}
 
-glyph-digit : (d : ℕ) → d < 10 → glyph d ≡ 48 + d
+glyph-digit : (d : ℕ) → d < 10 → glyph d ≡ zeroByte + d
 glyph-digit d h = rw (lt-ltb d 10 h)
 
 less-one : (k : ℕ) → suc k - 1 ≡ k

@@ -7,7 +7,7 @@ use native.Mathlib.Numerals.{add-one}
 use lib.Dec.{eqb}
 use lib.ListN.{length, drop, getD}
 use lib.Seq.{drop-cons}
-use Rattle.text.specs.Writing.{Page, putByte, putAll, decimalOf, spaceIf, numbersText, lineText}
+use Rattle.text.specs.Writing.{newlineByte, Page, putByte, putAll, decimalOf, spaceIf, numbersText, lineText}
 use Rattle.text.proofs.Lists.{drop-past}
 
 pub put-both : (p : Page) (s t : List ℕ) → putAll p (s ++ t) ≡ putAll (putAll p s) t
@@ -40,7 +40,7 @@ module _ (p : Page) (due : Bool) (numbers : List ℕ) (i : ℕ) where
 -- a whole line: the word, the numbers and the newline
 pub line : (p : Page) (word numbers : List ℕ) {q r s : Page} → q ≡ putAll p word
     → r ≡ putAll q (numbersText (not (eqb (length word) 0)) numbers)
-    → s ≡ putByte r 10 → s ≡ putAll p (lineText word numbers)
+    → s ≡ putByte r newlineByte → s ≡ putAll p (lineText word numbers)
 unfolding putAll lineText
 line p word numbers e f g =
-    rw (g, f, e) (sym (put-both (putAll p word) (numbersText (not (eqb (length word) 0)) numbers) (10 ∷ [])) ∙ sym (put-both p word _))
+    rw (g, f, e) (sym (put-both (putAll p word) (numbersText (not (eqb (length word) 0)) numbers) (newlineByte ∷ [])) ∙ sym (put-both p word _))

@@ -39,7 +39,9 @@ unfoldable pub numberFrom : ℕ → ℕ → Bool → ℕ → List ℕ → Read
 numberFrom most value seen next [] = ended seen value next
 numberFrom most value seen next (byte ∷ rest) =
     pick (isDigit byte)
-    (pick (leb (withDigit value (byte - zeroByte)) most) (numberFrom most (withDigit value (byte - zeroByte)) true (next + 1) rest) Wrong)
+    (pick (leb (withDigit value (byte - zeroByte)) most)
+    (numberFrom most (withDigit value (byte - zeroByte)) true (next + 1) rest)
+    Wrong)
     (ended seen value next)
 
 -- the number that starts at a place of a line, of at most `most`, with the place after it

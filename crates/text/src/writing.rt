@@ -2,7 +2,7 @@
 // any more is left out.
 ghost use mathlib.Core.Path.{_≡_};
 ghost use lib.ListN.{take};
-ghost use Rattle.text.specs.Writing.{page, putByte, putAll, decimalOf, spaceIf, lineText};
+ghost use Rattle.text.specs.Writing.{page, putByte, putAll, decimalOf, spaceIf, numbersText, lineText};
 
 // The first n bytes, or all where there are fewer.
 pub fn front(bytes: &[u8], n: usize) -> &[u8]
@@ -53,16 +53,27 @@ pub fn put_decimal(buffer: &mut [u8], written: usize, number: u64) -> usize
     put_text(buffer, written, &digits[..count])
 }
 
+// Numbers with a space between any two of them, and before the first where one is due.
+fn put_numbers(buffer: &mut [u8], written: usize, first: bool, numbers: &[u64]) -> usize
+    ensures { λ n. ⌜ page (now (buffer .exit)) n ≡ putAll (page (now (buffer .entry)) written) (numbersText first (now (numbers .entry))) ⌝ }
+{
+    let mut at = written;
+    let mut due = first;
+    let mut i = 0;
+    while i < numbers.len() {
+        at = put_space(buffer, at, due);
+        at = put_decimal(buffer, at, numbers[i]);
+        due = true;
+        i += 1;
+    }
+    at
+}
+
 // A word, which may be empty, then numbers, with a space between any two of them, and a newline.
 pub fn put_line(buffer: &mut [u8], written: usize, word: &[u8], numbers: &[u64]) -> usize
     ensures { λ n. ⌜ page (now (buffer .exit)) n ≡ putAll (page (now (buffer .entry)) written) (lineText (now (word .entry)) (now (numbers .entry))) ⌝ }
 {
-    let mut at = put_text(buffer, written, word);
-    let mut i = 0;
-    while i < numbers.len() {
-        at = put_space(buffer, at, (i != 0) | (word.len() != 0));
-        at = put_decimal(buffer, at, numbers[i]);
-        i += 1;
-    }
-    put_byte(buffer, at, b'\n')
+    let named = put_text(buffer, written, word);
+    let counted = put_numbers(buffer, named, word.len() != 0, numbers);
+    put_byte(buffer, counted, b'\n')
 }

@@ -1,5 +1,5 @@
 -- `text::writing::put_decimal` meets its contract: what `io::decimal` puts is the decimal text. Assumes nothing.
-use mathlib.Core.Path.{sym, ap, _∙_}
+use mathlib.Core.Path.{ap, _∙_}
 use native.Mathlib.Omega.{arith}
 use borrow.Author.Needs.{needs}
 use Rattle.text.specs.Writing.{putAll}
@@ -11,7 +11,8 @@ returns : tie.Need-returns
 returns c =
     let t = c .before .before in
     let d = t .before .before .before .decimal in
-    t .put-text .ensures ∙ ap (putAll _) (d .ensures .1 .1 ∙ decimal-text 20 _ _ (few _ _ (omega arith) (d .ensures .1 .0)) (d .ensures .1 .0))
+    let fewest = d .ensures .1 .0 in
+    t .put-text .ensures ∙ ap (putAll _) (d .ensures .1 .1 ∙ decimal-text 20 _ _ (few _ _ (omega arith) fewest) fewest)
 
 pub put-decimal-spec : {M : Type 1} → statement M
 put-decimal-spec =
