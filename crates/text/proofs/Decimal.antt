@@ -19,18 +19,18 @@ less-one : (k : ℕ) → suc k - 1 ≡ k
 less-one k = omega arith
 
 module _ (n k : ℕ) (f : Fewest 10 1 n (suc (suc k))) where
-  -- a number of two digits or more has ten or more
+  -- a number of two digits or more is no less than the least of so many
   least : 10 ^ k * 10 ≤ n
   least = rw (← pow-suc 10 k) (rw (less-one (suc k)) at (f .2 (omega arith)))
 
   ten : 10 ≤ n
   ten = omega (arith, least, one-le-pow k 10 (omega arith))
 
-  -- and one digit less without its last
+  -- without its last digit it has one less
   shorter : Fewest 10 1 (n / 10) (suc k)
   shorter = (omega arith, omega (arith, f .1, pow-suc 10 (suc k)), λ h. rw (less-one k) (omega (arith, least)))
 
--- a number below 2^64 has at most twenty
+-- a number below 2^64 has at most twenty digits
 pub few : (n k : ℕ) → n < 18446744073709551616 → Fewest 10 1 n k → k ≤ 20
 few n k h f =
     test (leb k 20) (λ e. leb-true k 20 e) (λ e.
@@ -38,7 +38,7 @@ few n k h f =
     let least : 10 ^ 20 ≤ 10 ^ (k - 1) = pow-le-pow-right (omega arith) {i = 20} {j = k - 1} (omega arith) in
     absurd (omega (arith, f .2 (omega arith))))
 
--- what the digits of the fewest are, where there is room for them
+-- so many digits as a number has are its text, where there may be as many
 pub decimal-text : (most k n : ℕ) → k ≤ most → Fewest 10 1 n k → digits 10 k n ≡ decimalWithin most n
 unfolding decimalWithin
 decimal-text most zero n h f = absurd (omega (arith, f .0))

@@ -7,7 +7,7 @@ use native.Mathlib.Numerals.{add-one}
 use lib.Dec.{eqb}
 use lib.ListN.{length, drop, getD}
 use lib.Seq.{drop-cons}
-use Rattle.text.specs.Writing.{newlineByte, Page, putByte, putAll, decimalOf, spaceIf, numbersText, lineText}
+use Rattle.text.specs.Writing.{newlineByte, Page, page, putByte, putAll, decimalOf, spaceIf, numbersText, lineText}
 use Rattle.text.proofs.Lists.{drop-past}
 
 pub put-both : (p : Page) (s t : List ℕ) → putAll p (s ++ t) ≡ putAll (putAll p s) t
@@ -44,3 +44,7 @@ pub line : (p : Page) (word numbers : List ℕ) {q r s : Page} → q ≡ putAll 
 unfolding putAll lineText
 line p word numbers e f g =
     rw (g, f, e) (sym (put-both (putAll p word) (numbersText (not (eqb (length word) 0)) numbers) (newlineByte ∷ [])) ∙ sym (put-both p word _))
+
+-- a promise of the form page l n ≡ d says all bytes of the buffer, and the count
+pub one-page : (d : Page) {l m : List ℕ} {j k : ℕ} → page l j ≡ d → page m k ≡ d → (l ≡ m) × (j ≡ k)
+one-page d p q = (ap (λ (x : Page). x .bytes) (p ∙ sym q), ap (λ (x : Page). x .written) (p ∙ sym q))

@@ -34,7 +34,8 @@ unfoldable pub ended : Bool → ℕ → ℕ → Read
 ended seen value next = pick seen (Number value next) Wrong
 
 -- the answer of the bytes that are left, by the value of the digits before them, whether there was one, and the place of the first
--- byte left. A digit makes the value greater, and is Wrong where this is past the most; any other byte, and the end, end the number.
+-- byte left. A digit is put at the end of the value, and the answer is Wrong where that is past the most; any other byte, and the
+-- end of the line, end the number.
 unfoldable pub numberFrom : ℕ → ℕ → Bool → ℕ → List ℕ → Read
 numberFrom most value seen next [] = ended seen value next
 numberFrom most value seen next (byte ∷ rest) =

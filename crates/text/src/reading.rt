@@ -20,6 +20,7 @@ fn is_digit(byte: u8) -> bool
     (b'0' <= byte) & (byte <= b'9')
 }
 
+// The value with the digit at its end, or that this is past `most`; tested so that nothing wraps.
 fn with_digit(value: u64, digit: u64, most: u64) -> Grown
     ensures { λ g. ⌜ g ≡ grown value digit most ⌝ }
 {

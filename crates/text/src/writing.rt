@@ -45,6 +45,7 @@ fn put_space(buffer: &mut [u8], written: usize, due: bool) -> usize
     written
 }
 
+// The number in decimal, with no zero in front.
 pub fn put_decimal(buffer: &mut [u8], written: usize, number: u64) -> usize
     ensures { λ n. ⌜ page (now (buffer .exit)) n ≡ putAll (page (now (buffer .entry)) written) (decimalOf number) ⌝ }
 {
