@@ -1,6 +1,7 @@
 -- `text::writing::put_numbers` meets its contract: to put the numbers that are left stays what it was at the start. Assumes nothing.
 use mathlib.Core.Path.{_≡_, refl, sym, _∙_}
 use Prim.Native.Nat.{_-_}
+use native.Mathlib.Omega.{arith}
 use lib.ListN.{length, drop}
 use borrow.Author.Needs.{needs}
 use Rattle.text.specs.Writing.{page, putAll, numbersText}
@@ -31,5 +32,5 @@ returns c = sym (number-end _ _ _ _ (c .loop-test .left)) ∙ c .before .loop .i
 pub put-numbers-spec : {M : Type 1} → statement M
 put-numbers-spec =
     tie.close
-    (tie.spec Inv-loop μ-loop (λ c. (refl, refl)) (search needs) (search needs) (search needs) (search needs) (search needs) (search needs) loop-again
-    (search needs) returns)
+    (tie.spec Inv-loop μ-loop (λ c. (refl, refl)) (λ c κs. tt) (λ c. omega arith) (λ c. omega arith) (λ c κs. tt) (λ c. omega arith)
+    (λ c. omega arith) loop-again (λ c. omega arith) returns)

@@ -28,4 +28,4 @@ returns c = sym (put-end _ _ _ (c .loop-test .left)) ∙ c .before .loop .inv .1
 pub put-text-spec : {M : Type 1} → statement M
 put-text-spec =
     tie.close
-    (tie.spec Inv-loop μ-loop (λ c. (refl, refl)) (search needs) (search needs) (search needs) (search needs) loop-again (search needs) returns)
+    (tie.spec Inv-loop μ-loop (λ c. (refl, refl)) (λ c. omega arith) (λ c κs. tt) (λ c. omega arith) (λ c. omega arith) loop-again (λ c. omega arith) returns)
