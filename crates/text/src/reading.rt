@@ -1,4 +1,6 @@
 // Reading a decimal number: one or more digits, leading zeros allowed, of which no beginning is past the range.
+ghost use mathlib.Core.Path.{_≡_};
+ghost use Rattle.text.specs.Reading.{isDigit, grown, ended, numberAt};
 
 // The number that stands at a place, with the place after it; or that none does that is in its range.
 pub enum Read {
@@ -12,15 +14,16 @@ enum Grown {
     Past,
 }
 
-fn is_digit(byte: u8) -> bool {
+fn is_digit(byte: u8) -> bool
+    ensures { λ b. ⌜ b ≡ isDigit byte ⌝ }
+{
     (b'0' <= byte) & (byte <= b'9')
 }
 
-fn with_digit(value: u64, byte: u8, most: u64) -> Grown {
-    if byte < b'0' {
-        return Grown::Past;
-    }
-    let digit = (byte - b'0') as u64;
+// The value with the digit at its end, or that this is past `most`; tested so that nothing wraps.
+fn with_digit(value: u64, digit: u64, most: u64) -> Grown
+    ensures { λ g. ⌜ g ≡ grown value digit most ⌝ }
+{
     if u64::MAX / 10 < value {
         return Grown::Past;
     }
@@ -35,8 +38,10 @@ fn with_digit(value: u64, byte: u8, most: u64) -> Grown {
 }
 
 // What the digits that were read are worth, where there was one.
-fn ended(digits: bool, value: u64, next: usize) -> Read {
-    if digits {
+fn ended(seen: bool, value: u64, next: usize) -> Read
+    ensures { λ r. ⌜ r ≡ ended seen value next ⌝ }
+{
+    if seen {
         return Read::Number {
             value: value,
             next: next,
@@ -46,7 +51,9 @@ fn ended(digits: bool, value: u64, next: usize) -> Read {
 }
 
 // The number that starts at a place, of at most `most`.
-pub fn number(line: &[u8], from: usize, most: u64) -> Read {
+pub fn number(line: &[u8], from: usize, most: u64) -> Read
+    ensures { λ r. ⌜ r ≡ numberAt (now (line .entry)) from most ⌝ }
+{
     let mut value = 0u64;
     let mut i = from;
     while i < line.len() {
@@ -54,7 +61,7 @@ pub fn number(line: &[u8], from: usize, most: u64) -> Read {
         if !is_digit(byte) {
             return ended(from < i, value, i);
         }
-        let Grown::To(more) = with_digit(value, byte, most) else {
+        let Grown::To(more) = with_digit(value, (byte - b'0') as u64, most) else {
             return Read::Wrong;
         };
         value = more;
