@@ -46,6 +46,7 @@ impl Reply {
 }
 
 /// Plays a script, a line at a time.
+#[derive(Clone)]
 pub struct Player {
     pub driver: Driver,
     lines: u64,
