@@ -61,24 +61,23 @@ struct Episode {
 /// Plays drawn lines, leaving out those that are no commands.
 fn cut(drawn: &[u8], mut player: Player, left: &BTreeSet<Kind>) -> Episode {
     let mut episode = Episode { lines: vec![], reached: BTreeSet::new() };
-    let (mut lines, mut end) = (Vec::new(), 0);
+    let mut end = 0;
     for line in drawn.split(|byte| *byte == b'\n').filter(|line| !line.is_empty()) {
         let lent = player.driver.lent(Place::Log) > 0;
         let reply = player.hear(line);
         if matches!(reply, Reply::Bad(_)) || line[0] == b'#' {
             continue;
         }
-        lines.extend_from_slice(line);
-        lines.push(b'\n');
+        episode.lines.extend_from_slice(line);
+        episode.lines.push(b'\n');
         if let Reply::Answered(made) = reply {
             let kind = kind(&made, lent);
             if left.contains(&kind) && episode.reached.insert(kind) {
-                end = lines.len();
+                end = episode.lines.len();
             }
         }
     }
-    lines.truncate(end);
-    episode.lines = lines;
+    episode.lines.truncate(end);
     episode
 }
 
