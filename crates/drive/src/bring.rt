@@ -1,42 +1,61 @@
 // The calls that bring payloads in: open, begin, begin structural, edit and report structure. Each makes the payloads and the words that
 // its line names, in scratch, and then the call on what is lent: where no log is lent it goes to the transaction itself, and where one
-// is lent, all but an edit to the recorder. What is held goes by the letters of a script: a accepted, c candidate, r recovery, t the
-// table, l the log; new, old and pairs are scratch.
-use super::held::ACCEPTED;
-use super::held::ACTIONS;
-use super::held::CANDIDATE;
-use super::held::Counts;
-use super::held::LOG;
-use super::held::RECOVERY;
+// is lent, all but an edit to the recorder. By the letters of a script: a accepted, c candidate, r recovery, t the table, l the log.
+use super::held::Lent;
+use super::held::SECOND;
 use super::held::part;
 use super::held::part_of_words;
+use super::held::within;
 use record::Opening;
 use record::Record;
 use record::Reporting;
 use record::Stepped;
 use script::Bringing;
 use script::HELD_AREA;
-use script::HELD_LOG;
-use script::HELD_TABLE;
 use script::Seeded;
+use script::fill;
 use script::payload;
 use script::words;
 
-fn open(
-    given: Opening,
-    named: Seeded,
-    lent: Counts,
-    l: &mut [u64],
-    a: &mut [u8],
-    new: &mut [u8],
-) -> Stepped {
-    let l = part_of_words(l, lent[LOG]);
-    let a = part(a, lent[ACCEPTED]);
-    let new = payload(new, named);
+// Both payloads of a line, each in its half of the scratch.
+struct Payloads {
+    candidate: Seeded,
+    recovery: Seeded,
+}
+
+fn both(candidate: Seeded, recovery: Seeded) -> Payloads {
+    Payloads {
+        candidate: candidate,
+        recovery: recovery,
+    }
+}
+
+fn make(named: Payloads, scratch: &mut [u8]) {
+    fill(part(scratch, 0, HELD_AREA), named.candidate);
+    fill(part(scratch, SECOND, HELD_AREA), named.recovery);
+}
+
+fn open_on(given: Opening, l: &mut [u64], a: &mut [u8], new: &[u8]) -> Stepped {
     if l.len() == 0 {
         return transaction::open(given, a, new);
     }
     recorder::open(given, l, a, new)
+}
+
+fn open(
+    given: Opening,
+    named: Seeded,
+    lent: Lent,
+    l: &mut [u64],
+    left: &mut [u8],
+    scratch: &mut [u8],
+) -> Stepped {
+    open_on(
+        given,
+        part_of_words(l, lent.log),
+        part(left, 0, lent.accepted),
+        payload(scratch, named),
+    )
 }
 
 // A begin on what it is lent, structural or not.
@@ -60,116 +79,142 @@ fn begin_on(
     recorder::begin(record, l, c, r, t, new, old, pairs)
 }
 
-// The lengths and seeds of what a begin brings.
-struct Staging {
-    structural: bool,
-    candidate: Seeded,
-    recovery: Seeded,
-    pairs: Seeded,
-}
-
 fn begin(
-    named: Staging,
+    structural: bool,
+    named: Payloads,
+    actions: Seeded,
     record: Record,
-    lent: Counts,
+    lent: Lent,
     l: &mut [u64],
-    c: &mut [u8],
-    r: &mut [u8],
+    left: &mut [u8],
+    right: &mut [u8],
     t: &mut [u64],
-    new: &mut [u8],
-    old: &mut [u8],
+    scratch: &[u8],
     pairs: &mut [u64],
 ) -> Stepped {
-    let l = part_of_words(l, lent[LOG]);
-    let c = part(c, lent[CANDIDATE]);
-    let r = part(r, lent[RECOVERY]);
-    let t = part_of_words(t, lent[ACTIONS]);
-    let new = payload(new, named.candidate);
-    let old = payload(old, named.recovery);
-    let pairs = words(pairs, named.pairs);
-    begin_on(named.structural, record, l, c, r, t, new, old, pairs)
+    begin_on(
+        structural,
+        record,
+        part_of_words(l, lent.log),
+        part(right, 0, lent.candidate),
+        part(left, SECOND, lent.recovery),
+        part_of_words(t, lent.table),
+        within(scratch, 0, named.candidate.count),
+        within(scratch, SECOND, named.recovery.count),
+        words(pairs, actions),
+    )
 }
 
 fn edit(
-    candidate: Seeded,
-    recovery: Seeded,
+    named: Payloads,
     record: Record,
-    lent: Counts,
-    c: &mut [u8],
-    r: &mut [u8],
-    new: &mut [u8],
-    old: &mut [u8],
+    lent: Lent,
+    left: &mut [u8],
+    right: &mut [u8],
+    scratch: &[u8],
 ) -> Stepped {
-    let c = part(c, lent[CANDIDATE]);
-    let r = part(r, lent[RECOVERY]);
-    let new = payload(new, candidate);
-    let old = payload(old, recovery);
-    transaction::edit(record, c, r, new, old)
+    transaction::edit(
+        record,
+        part(right, 0, lent.candidate),
+        part(left, SECOND, lent.recovery),
+        within(scratch, 0, named.candidate.count),
+        within(scratch, SECOND, named.recovery.count),
+    )
 }
 
-fn report_structure(
+fn report_on(
     given: Reporting,
-    candidate: Seeded,
-    recovery: Seeded,
     record: Record,
-    lent: Counts,
     l: &mut [u64],
     c: &mut [u8],
     r: &mut [u8],
-    new: &mut [u8],
-    old: &mut [u8],
+    new: &[u8],
+    old: &[u8],
 ) -> Stepped {
-    let l = part_of_words(l, lent[LOG]);
-    let c = part(c, lent[CANDIDATE]);
-    let r = part(r, lent[RECOVERY]);
-    let new = payload(new, candidate);
-    let old = payload(old, recovery);
     if l.len() == 0 {
         return transaction::report_structure(record, given, c, r, new, old);
     }
     recorder::report_structure(record, given, l, c, r, new, old)
 }
 
+fn report_structure(
+    given: Reporting,
+    named: Payloads,
+    record: Record,
+    lent: Lent,
+    l: &mut [u64],
+    left: &mut [u8],
+    right: &mut [u8],
+    scratch: &[u8],
+) -> Stepped {
+    report_on(
+        given,
+        record,
+        part_of_words(l, lent.log),
+        part(right, 0, lent.candidate),
+        part(left, SECOND, lent.recovery),
+        within(scratch, 0, named.candidate.count),
+        within(scratch, SECOND, named.recovery.count),
+    )
+}
+
 pub(crate) fn bring(
     which: Bringing,
     record: Record,
-    lent: Counts,
-    l: &mut [u64; HELD_LOG],
-    a: &mut [u8; HELD_AREA],
-    c: &mut [u8; HELD_AREA],
-    r: &mut [u8; HELD_AREA],
-    t: &mut [u64; HELD_TABLE],
-    new: &mut [u8; HELD_AREA],
-    old: &mut [u8; HELD_AREA],
-    pairs: &mut [u64; HELD_TABLE],
+    lent: Lent,
+    l: &mut [u64],
+    left: &mut [u8],
+    right: &mut [u8],
+    t: &mut [u64],
+    scratch: &mut [u8],
+    pairs: &mut [u64],
 ) -> Stepped {
     match which {
         Bringing::Open {
             opening,
             payload: named,
-        } => open(opening, named, lent, l, a, new),
+        } => open(opening, named, lent, l, left, scratch),
         Bringing::Begin {
             structural,
             candidate,
             recovery,
-            pairs: named,
+            pairs: actions,
         } => {
-            let staging = Staging {
-                structural: structural,
-                candidate: candidate,
-                recovery: recovery,
-                pairs: named,
-            };
-            begin(staging, record, lent, l, c, r, t, new, old, pairs)
+            let named = both(candidate, recovery);
+            make(named, scratch);
+            begin(
+                structural,
+                named,
+                actions,
+                record,
+                lent,
+                l,
+                left,
+                right,
+                t,
+                scratch,
+                pairs,
+            )
         }
         Bringing::Edit {
             candidate,
             recovery,
-        } => edit(candidate, recovery, record, lent, c, r, new, old),
+        } => edit(
+            both(candidate, recovery),
+            record,
+            lent,
+            left,
+            right,
+            scratch,
+        ),
         Bringing::ReportStructure {
             given,
             candidate,
             recovery,
-        } => report_structure(given, candidate, recovery, record, lent, l, c, r, new, old),
+        } => {
+            let named = both(candidate, recovery);
+            make(named, scratch);
+            report_structure(given, named, record, lent, l, left, right, scratch)
+        }
     }
 }

@@ -1,66 +1,87 @@
-// How many elements of each area are lent, and the part of what is held that this is.
+// What the driver holds, and how much of it is lent. A call can be lent parts of two arrays, but not two parts of one, so the areas stand
+// on two sides: `left` holds the accepted area, the recovery area and the groups, `right` the candidate area, the exchange area and the
+// status, each side in this order. No call needs two of one side, but for recovering from the retained payload, which reads a copy.
 use script::Area;
+use script::HELD_AREA;
+use script::HELD_MARKS;
 use transaction::AREA;
 use transaction::TABLE;
-ghost use Prim.Native.Nat.{_<_};
 
-// The areas, by their places among the counts.
-pub(crate) const ACCEPTED: usize = 0;
+// Where the second and the third of a side start, and how many bytes a side has.
+pub(crate) const SECOND: usize = HELD_AREA;
 
-pub(crate) const CANDIDATE: usize = 1;
+pub(crate) const THIRD: usize = SECOND + HELD_AREA;
 
-pub(crate) const RECOVERY: usize = 2;
-
-pub(crate) const EXCHANGE: usize = 3;
-
-pub(crate) const ACTIONS: usize = 4;
-
-pub(crate) const LOG: usize = 5;
-
-pub(crate) const GROUPS: usize = 6;
-
-pub(crate) const STATUS: usize = 7;
-
-const AREAS: usize = 8;
+pub(crate) const SIDE: usize = THIRD + HELD_MARKS;
 
 // How many bytes of the groups and of the status are lent at the start.
 const MARKS: usize = 64;
 
-pub(crate) type Counts = [usize; AREAS];
-
-// What is lent at the start: areas and a table of the sizes that calls ask for, and no log.
-pub(crate) fn lent_first() -> Counts {
-    [AREA, AREA, AREA, AREA, TABLE, 0, MARKS, MARKS]
+// How many elements of each area are lent.
+pub(crate) struct Lent {
+    pub(crate) accepted: usize,
+    pub(crate) candidate: usize,
+    pub(crate) recovery: usize,
+    pub(crate) exchange: usize,
+    pub(crate) table: usize,
+    pub(crate) log: usize,
+    pub(crate) groups: usize,
+    pub(crate) status: usize,
 }
 
-fn place(area: Area) -> usize
-    ensures { λ n. ⌜ n < 8 ⌝ }
-{
-    match area {
-        Area::Accepted => ACCEPTED,
-        Area::Candidate => CANDIDATE,
-        Area::Recovery => RECOVERY,
-        Area::Exchange => EXCHANGE,
-        Area::Table => ACTIONS,
-        Area::Log => LOG,
-        Area::Groups => GROUPS,
-        Area::Status => STATUS,
+impl Lent {
+    // At the start: areas and a table of the sizes that calls ask for, and no log.
+    pub(crate) fn first() -> Lent {
+        Lent {
+            accepted: AREA,
+            candidate: AREA,
+            recovery: AREA,
+            exchange: AREA,
+            table: TABLE,
+            log: 0,
+            groups: MARKS,
+            status: MARKS,
+        }
+    }
+
+    // The same but for one area.
+    pub(crate) fn lending(mut self, area: Area, count: usize) -> Lent {
+        match area {
+            Area::Accepted => self.accepted = count,
+            Area::Candidate => self.candidate = count,
+            Area::Recovery => self.recovery = count,
+            Area::Exchange => self.exchange = count,
+            Area::Table => self.table = count,
+            Area::Log => self.log = count,
+            Area::Groups => self.groups = count,
+            Area::Status => self.status = count,
+        }
+        self
     }
 }
 
-// The same counts but for one area.
-pub(crate) fn lending(mut lent: Counts, area: Area, count: usize) -> Counts {
-    let at = place(area);
-    lent[at] = count;
-    lent
+// n bytes from a place on, or all where there are fewer.
+pub(crate) fn part(bytes: &mut [u8], from: usize, n: usize) -> &mut [u8] {
+    if bytes.len() < from {
+        return bytes;
+    }
+    if bytes.len() - from < n {
+        return bytes;
+    }
+    let end = from + n;
+    &mut bytes[from..end]
 }
 
-// The first n bytes, or all where there are fewer.
-pub(crate) fn part(bytes: &mut [u8], n: usize) -> &mut [u8] {
-    if n < bytes.len() {
-        return &mut bytes[0..n];
+// The same, to be read.
+pub(crate) fn within(bytes: &[u8], from: usize, n: usize) -> &[u8] {
+    if bytes.len() < from {
+        return bytes;
     }
-    bytes
+    if bytes.len() - from < n {
+        return bytes;
+    }
+    let end = from + n;
+    &bytes[from..end]
 }
 
 // The first n words, or all where there are fewer.

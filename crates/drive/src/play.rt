@@ -1,5 +1,5 @@
-// Running a script: what the driver holds, line after line, and what each command is handed of it. By the letters of a script: areas a,
-// c, r and x, the table t, the log l, the groups g and the status s.
+// Running a script, line after line, and what each command is handed of what the driver holds: both sides of bytes, the table t and the
+// log l.
 use super::answers::After;
 use super::answers::Told;
 use super::answers::after_call;
@@ -8,8 +8,8 @@ use super::answers::replying;
 use super::bring::bring;
 use super::end::end;
 use super::end::mark;
-use super::held::Counts;
-use super::held::lent_first;
+use super::held::Lent;
+use super::held::SIDE;
 use super::output::ROOM;
 use super::output::put_told;
 use super::prepare::prepare;
@@ -17,15 +17,14 @@ use super::show::digests;
 use super::work::work;
 use console::flush_before;
 use console::next_line;
+use console::start;
 use record::Opening;
 use record::Record;
 use replies::of_check;
 use replies::of_mark;
 use replies::of_stamp;
 use script::Command;
-use script::HELD_AREA;
 use script::HELD_LOG;
-use script::HELD_MARKS;
 use script::HELD_TABLE;
 use script::LONGEST;
 use script::Planning;
@@ -50,7 +49,7 @@ fn first_record() -> Record {
 }
 
 // Stamps and their checks are lent nothing, and leave the record as it is.
-fn plan(which: Planning, record: Record, lent: Counts) -> After {
+fn plan(which: Planning, record: Record, lent: Lent) -> After {
     match which {
         Planning::Stamp(domain) => {
             replying(record, lent, of_stamp(transaction::stamp(record, domain)))
@@ -65,63 +64,65 @@ fn plan(which: Planning, record: Record, lent: Counts) -> After {
     }
 }
 
+// The commands that are no calls of the transaction.
+fn aside(
+    command: Command,
+    record: Record,
+    lent: Lent,
+    left: &mut [u8],
+    right: &mut [u8],
+    t: &mut [u64],
+    l: &mut [u64],
+) -> After {
+    match command {
+        Command::Show => leaving(record, lent, Told::Shown(digests(left, right, t, l))),
+        Command::Prepare(which) => prepare(which, record, lent, left, right, t, l),
+        Command::Mark(which) => replying(record, lent, of_mark(mark(which, lent, left, right))),
+        Command::Plan(which) => plan(which, record, lent),
+        Command::Bad => leaving(record, lent, Told::Bad),
+        _ => leaving(record, lent, Told::Nothing),
+    }
+}
+
 // One command, over all that is held, and scratch for the payloads and words that it names.
 fn perform(
     command: Command,
     record: Record,
-    lent: Counts,
-    a: &mut [u8; HELD_AREA],
-    c: &mut [u8; HELD_AREA],
-    r: &mut [u8; HELD_AREA],
-    x: &mut [u8; HELD_AREA],
+    lent: Lent,
+    left: &mut [u8; SIDE],
+    right: &mut [u8; SIDE],
     t: &mut [u64; HELD_TABLE],
     l: &mut [u64; HELD_LOG],
-    g: &mut [u8; HELD_MARKS],
-    s: &mut [u8; HELD_MARKS],
-    new: &mut [u8; HELD_AREA],
-    old: &mut [u8; HELD_AREA],
+    scratch: &mut [u8; SIDE],
     pairs: &mut [u64; HELD_TABLE],
 ) -> After {
     match command {
-        Command::Nothing => leaving(record, lent, Told::Nothing),
-        Command::Bad => leaving(record, lent, Told::Bad),
-        Command::Show => {
-            let digests = digests(a, c, r, x, t, l, g, s);
-            leaving(record, lent, Told::Shown(digests))
-        }
-        Command::Prepare(which) => prepare(which, record, lent, a, c, r, x, t, l, g, s),
         Command::Bring(which) => {
             after_call(
-                bring(which, record, lent, l, a, c, r, t, new, old, pairs),
+                bring(which, record, lent, l, left, right, t, scratch, pairs),
                 lent,
             )
         }
         Command::Work(which) => after_call(work(which, record, lent, l, t), lent),
-        Command::End(which) => after_call(end(which, record, lent, l, a, c, r, x), lent),
-        Command::Plan(which) => plan(which, record, lent),
-        Command::Mark(which) => replying(record, lent, of_mark(mark(which, lent, g, s))),
+        Command::End(which) => after_call(end(which, record, lent, l, left, right, scratch), lent),
+        _ => aside(command, record, lent, left, right, t, l),
     }
 }
 
 // Line after line, until the input ends.
 fn run(
-    a: &mut [u8; HELD_AREA],
-    c: &mut [u8; HELD_AREA],
-    r: &mut [u8; HELD_AREA],
-    x: &mut [u8; HELD_AREA],
+    left: &mut [u8; SIDE],
+    right: &mut [u8; SIDE],
     t: &mut [u64; HELD_TABLE],
     l: &mut [u64; HELD_LOG],
-    g: &mut [u8; HELD_MARKS],
-    s: &mut [u8; HELD_MARKS],
-    new: &mut [u8; HELD_AREA],
-    old: &mut [u8; HELD_AREA],
+    scratch: &mut [u8; SIDE],
     pairs: &mut [u64; HELD_TABLE],
     bytes: &mut [u8; LINE],
     chunk: &mut [u8; CHUNK],
     buffer: &mut [u8; CHUNK],
 ) {
-    let mut state = leaving(first_record(), lent_first(), Told::Nothing);
-    let mut place = console::start();
+    let mut state = leaving(first_record(), Lent::first(), Told::Nothing);
+    let mut place = start();
     let mut written = 0;
     let mut number = 0u64;
     while number < u64::MAX {
@@ -136,22 +137,7 @@ fn run(
         let command = command_of(bytes, place.length);
         let record = state.record;
         let lent = state.lent;
-        state = perform(
-            command,
-            record,
-            lent,
-            a,
-            c,
-            r,
-            x,
-            t,
-            l,
-            g,
-            s,
-            new,
-            old,
-            pairs,
-        );
+        state = perform(command, record, lent, left, right, t, l, scratch, pairs);
         written = put_told(buffer, written, state, number);
     }
 }
@@ -159,16 +145,11 @@ fn run(
 // Runs the script on standard input.
 pub(crate) fn play() {
     run(
-        &mut [0u8; HELD_AREA],
-        &mut [0u8; HELD_AREA],
-        &mut [0u8; HELD_AREA],
-        &mut [0u8; HELD_AREA],
+        &mut [0u8; SIDE],
+        &mut [0u8; SIDE],
         &mut [0u64; HELD_TABLE],
         &mut [0u64; HELD_LOG],
-        &mut [0u8; HELD_MARKS],
-        &mut [0u8; HELD_MARKS],
-        &mut [0u8; HELD_AREA],
-        &mut [0u8; HELD_AREA],
+        &mut [0u8; SIDE],
         &mut [0u64; HELD_TABLE],
         &mut [0u8; LINE],
         &mut [0u8; CHUNK],

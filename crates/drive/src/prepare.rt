@@ -2,14 +2,14 @@
 use super::answers::After;
 use super::answers::Told;
 use super::answers::leaving;
-use super::held::Counts;
-use super::held::lending;
+use super::held::Lent;
+use super::held::SECOND;
+use super::held::THIRD;
+use super::held::part;
 use record::Record;
 use script::Area;
 use script::HELD_AREA;
-use script::HELD_LOG;
 use script::HELD_MARKS;
-use script::HELD_TABLE;
 use script::Preparing;
 use script::fill;
 
@@ -33,50 +33,42 @@ fn put(
     area: Area,
     at: usize,
     value: u64,
-    a: &mut [u8; HELD_AREA],
-    c: &mut [u8; HELD_AREA],
-    r: &mut [u8; HELD_AREA],
-    x: &mut [u8; HELD_AREA],
-    t: &mut [u64; HELD_TABLE],
-    l: &mut [u64; HELD_LOG],
-    g: &mut [u8; HELD_MARKS],
-    s: &mut [u8; HELD_MARKS],
+    left: &mut [u8],
+    right: &mut [u8],
+    t: &mut [u64],
+    l: &mut [u64],
 ) {
     match area {
-        Area::Accepted => put_byte(a, at, value),
-        Area::Candidate => put_byte(c, at, value),
-        Area::Recovery => put_byte(r, at, value),
-        Area::Exchange => put_byte(x, at, value),
+        Area::Accepted => put_byte(part(left, 0, HELD_AREA), at, value),
+        Area::Candidate => put_byte(part(right, 0, HELD_AREA), at, value),
+        Area::Recovery => put_byte(part(left, SECOND, HELD_AREA), at, value),
+        Area::Exchange => put_byte(part(right, SECOND, HELD_AREA), at, value),
         Area::Table => put_word(t, at, value),
         Area::Log => put_word(l, at, value),
-        Area::Groups => put_byte(g, at, value),
-        Area::Status => put_byte(s, at, value),
+        Area::Groups => put_byte(part(left, THIRD, HELD_MARKS), at, value),
+        Area::Status => put_byte(part(right, THIRD, HELD_MARKS), at, value),
     }
 }
 
 pub(crate) fn prepare(
     which: Preparing,
     record: Record,
-    lent: Counts,
-    a: &mut [u8; HELD_AREA],
-    c: &mut [u8; HELD_AREA],
-    r: &mut [u8; HELD_AREA],
-    x: &mut [u8; HELD_AREA],
-    t: &mut [u64; HELD_TABLE],
-    l: &mut [u64; HELD_LOG],
-    g: &mut [u8; HELD_MARKS],
-    s: &mut [u8; HELD_MARKS],
+    lent: Lent,
+    left: &mut [u8],
+    right: &mut [u8],
+    t: &mut [u64],
+    l: &mut [u64],
 ) -> After {
     match which {
         Preparing::Lend { area, count } => {
-            leaving(record, lending(lent, area, count), Told::Nothing)
+            leaving(record, lent.lending(area, count), Told::Nothing)
         }
         Preparing::Put { area, at, value } => {
-            put(area, at, value, a, c, r, x, t, l, g, s);
+            put(area, at, value, left, right, t, l);
             leaving(record, lent, Told::Nothing)
         }
         Preparing::Fill(named) => {
-            fill(x, named);
+            fill(part(right, SECOND, HELD_AREA), named);
             leaving(record, lent, Told::Nothing)
         }
         Preparing::Record(given) => leaving(given, lent, Told::Nothing),

@@ -1,8 +1,6 @@
 // Asking for tickets, and the reports of updates and rollbacks: where no log is lent they go to the transaction itself, and where one is
 // lent to the recorder. By the letters of a script, t is the table and l the log.
-use super::held::ACTIONS;
-use super::held::Counts;
-use super::held::LOG;
+use super::held::Lent;
 use super::held::part_of_words;
 use record::Record;
 use record::Stepped;
@@ -41,14 +39,17 @@ fn logged(which: Working, record: Record, l: &mut [u64], t: &mut [u64]) -> Stepp
 pub(crate) fn work(
     which: Working,
     record: Record,
-    lent: Counts,
+    lent: Lent,
     l: &mut [u64],
     t: &mut [u64],
 ) -> Stepped {
-    let l = part_of_words(l, lent[LOG]);
-    let t = part_of_words(t, lent[ACTIONS]);
-    if l.len() == 0 {
-        return itself(which, record, t);
+    if lent.log == 0 {
+        return itself(which, record, part_of_words(t, lent.table));
     }
-    logged(which, record, l, t)
+    logged(
+        which,
+        record,
+        part_of_words(l, lent.log),
+        part_of_words(t, lent.table),
+    )
 }

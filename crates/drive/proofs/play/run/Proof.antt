@@ -6,13 +6,15 @@ use Rattle.drive.proofs.play.run.Statement.{statement}
 use Rattle.drive.proofs.play.run.Tie as tie
 
 abbrev Inv-loop : tie.InvT-loop
-Inv-loop a₀ c₀ r₀ x₀ t₀ l₀ g₀ s₀ new₀ old₀ pairs₀ bytes₀ chunk₀ buffer₀ state₀ place₀ written₀ number₀ t23 t24 a c r x t l g s new old pairs bytes chunk buffer state place written number = 0 ≤ number
+Inv-loop left₀ right₀ t₀ l₀ scratch₀ pairs₀ bytes₀ chunk₀ buffer₀ state₀ place₀ written₀ number₀ t18 t19 left right t l scratch pairs bytes chunk buffer state place written number =
+    0 ≤ number
 
 abbrev μ-loop : tie.MeasureT-loop
-μ-loop a₀ c₀ r₀ x₀ t₀ l₀ g₀ s₀ new₀ old₀ pairs₀ bytes₀ chunk₀ buffer₀ state₀ place₀ written₀ number₀ t23 t24 a c r x t l g s new old pairs bytes chunk buffer state place written number = 18446744073709551615 - number
+μ-loop left₀ right₀ t₀ l₀ scratch₀ pairs₀ bytes₀ chunk₀ buffer₀ state₀ place₀ written₀ number₀ t18 t19 left right t l scratch pairs bytes chunk buffer state place written number =
+    18446744073709551615 - number
 
 loop-less : tie.Need-loop-less Inv-loop μ-loop
-loop-less c = omega (arith, c .before .before .before .before .before .before .before .before .before .before .before .before .before .before .before .before .before .before .before .before .before .before .before .before .before .before .before .before .before .before .before .loop-test .taken)
+loop-less c = omega (arith, c .before .before .before .before .before .before .before .before .before .before .before .before .before .before .before .before .before .before .before .before .before .before .before .before .before .before .loop-test .taken)
 
 pub run-spec : {M : Type 1} → statement M
 run-spec =
