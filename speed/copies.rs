@@ -67,8 +67,11 @@ fn exchange_loop(a: &mut [u8], b: &mut [u8]) {
     }
 }
 
-const COPIES: [Contender; 3] =
-    [("Rust's copy_from_slice", copy_own), ("Rattle", copy_proved), ("Rust, index loop", copy_loop)];
+const COPIES: [Contender; 3] = [
+    ("Rust's copy_from_slice", copy_own),
+    ("Rattle", copy_proved),
+    ("Rust, index loop", copy_loop),
+];
 
 const EXCHANGES: [Contender; 3] = [
     ("Rust's swap_with_slice", exchange_own),

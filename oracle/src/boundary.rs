@@ -17,11 +17,17 @@ use std::io::{self, Write};
 
 type Out<'a> = &'a mut dyn Write;
 
-/// The boundary pairs of document 01.
-pub fn boundary(out: Out) -> io::Result<()> {
+/// The boundary pairs that document 01 wants run: lengths of 4,096 bytes and of
+/// one more, 64 and 65 actions, and the last serials.
+pub fn limits(out: Out) -> io::Result<()> {
     transaction::payload_lengths(out)?;
     transaction::action_counts(out)?;
-    transaction::serials(out)?;
+    transaction::serials(out)
+}
+
+/// The boundary pairs of document 01.
+pub fn boundary(out: Out) -> io::Result<()> {
+    limits(out)?;
     transaction::revisions(out)?;
     transaction::lent_sizes(out)?;
     logs::log_sizes(out)?;

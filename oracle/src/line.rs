@@ -6,7 +6,12 @@
 use crate::model::row::{KIND, RESTORING, STAGED};
 use crate::model::{Opening, Record, Stamp, Work};
 use crate::place::Place;
-use crate::text::join;
+
+/// Numbers parted by single spaces.
+pub fn join(numbers: &[u64]) -> String {
+    let texts: Vec<String> = numbers.iter().map(|number| number.to_string()).collect();
+    texts.join(" ")
+}
 
 pub fn lend(place: Place, size: u64) -> String {
     format!("lend {} {}", place, size)

@@ -14,6 +14,7 @@ mod log;
 mod make;
 mod model;
 mod place;
+mod reach;
 mod script;
 mod sizes;
 mod status;
@@ -32,7 +33,10 @@ const USAGE: &str = "usage:
   oracle start               prints the lines that lend what the driver lends at
                              its start, and that open
   oracle boundary            prints the fixed script of boundary cases
+  oracle limits              prints its part on lengths, actions and serials
   oracle sweep               prints the fixed script of all small records
+  oracle reach               prints a short script that reaches every call with
+                             every answer, through a log and without one
   oracle compare FIRST SEEDS CALLS DRIVER [WORD ..]
                              plays the fixed scripts and those of SEEDS seeds
                              from FIRST on, here and by the program DRIVER,
@@ -64,7 +68,9 @@ fn obey(words: &[String], output: &mut dyn Write) -> io::Result<End> {
         ("play", 1, _) => script::play(&mut io::stdin().lock(), output)?,
         ("start", 1, _) => boundary::start(output)?,
         ("boundary", 1, _) => boundary::boundary(output)?,
+        ("limits", 1, _) => boundary::limits(output)?,
         ("sweep", 1, _) => boundary::sweep(output)?,
+        ("reach", 1, _) => reach::reach(output)?,
         ("make", 3, [seed, calls]) => make(*seed, *calls, output)?,
         ("table", 3, [seed, calls]) => table(*seed, *calls, output)?,
         ("compare", count, [first_seed, seeds, calls, ..]) if count >= 5 => {

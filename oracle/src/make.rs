@@ -46,6 +46,16 @@ pub fn make(seed: u64, calls: u64, output: &mut dyn Write, seen: Seen) -> io::Re
     maker.output.flush()
 }
 
+/// One episode, drawn by a seed, of a script that a player has played so far.
+pub fn episode(seed: u64, player: Player) -> io::Result<Vec<u8>> {
+    let mut output = Vec::new();
+    let (dice, bad) = (Dice::new(seed), bad::all());
+    let seen: Seen = &mut |_| {};
+    let mut maker = Maker { dice, player, output: &mut output, seen, calls: 0, bad };
+    maker.episode()?;
+    Ok(output)
+}
+
 impl Maker<'_> {
     /// Writes a line and plays it on the maker's own model. One call in
     /// twenty is looked at afterwards.

@@ -8,7 +8,7 @@ use crate::command;
 use crate::driver::{Driver, Said};
 use crate::model::Name;
 use crate::sizes::LINE_MOST;
-use crate::text::answer_text;
+use crate::text::{answer_text, shown};
 use std::io::{self, BufRead, Write};
 
 /// A call that was made: its name, the phase of the record before it where
@@ -46,6 +46,7 @@ impl Reply {
 }
 
 /// Plays a script, a line at a time.
+#[derive(Clone)]
 pub struct Player {
     pub driver: Driver,
     lines: u64,
@@ -70,7 +71,7 @@ impl Player {
         match self.driver.obey(command) {
             Said::Nothing => Reply::Nothing,
             Said::Answered(name, answered) => Reply::Answered(Made { name, phase, answered }),
-            Said::Shown(lines) => Reply::Shown(lines),
+            Said::Show => Reply::Shown(shown(&self.driver)),
         }
     }
 }

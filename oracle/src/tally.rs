@@ -10,8 +10,8 @@ use std::fmt;
 
 /// A column of the table. Checking a stamp answers yes or no, which are
 /// counted in columns of their own.
-#[derive(Clone, Copy, PartialEq, Eq, PartialOrd, Ord)]
-enum Column {
+#[derive(Clone, Copy, Debug, PartialEq, Eq, PartialOrd, Ord)]
+pub enum Column {
     Done,
     Yes,
     No,
@@ -29,7 +29,7 @@ impl fmt::Display for Column {
     }
 }
 
-fn column_of(answer: Answer) -> Column {
+pub fn column_of(answer: Answer) -> Column {
     match answer {
         Answer::Done => Column::Done,
         other => Column::Other(other.number()),
@@ -37,7 +37,7 @@ fn column_of(answer: Answer) -> Column {
 }
 
 /// The column in which an answer is counted.
-fn counted(name: Name, answered: &Answered) -> Column {
+pub fn counted(name: Name, answered: &Answered) -> Column {
     match (name, answered.answer) {
         (Name::Check, Answer::Done) if answered.values == [1] => Column::Yes,
         (Name::Check, Answer::Done) => Column::No,
@@ -46,7 +46,7 @@ fn counted(name: Name, answered: &Answered) -> Column {
 }
 
 /// The columns that document 01 allows a call.
-fn allowed(about: &About) -> BTreeSet<Column> {
+pub fn allowed(about: &About) -> BTreeSet<Column> {
     let mut columns: BTreeSet<Column> = about.answers().into_iter().map(column_of).collect();
     if about.name == Name::Check {
         columns.remove(&Column::Done);

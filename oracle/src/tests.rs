@@ -2,6 +2,7 @@
 
 mod answers;
 mod cases;
+mod reaching;
 mod scripts;
 mod shrinking;
 

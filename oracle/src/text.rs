@@ -4,7 +4,7 @@
 
 use crate::answer::Answered;
 use crate::driver::Driver;
-use crate::line;
+use crate::line::{self, join};
 
 /// The lines of `show`.
 pub fn shown(driver: &Driver) -> Vec<String> {
@@ -16,11 +16,6 @@ pub fn shown(driver: &Driver) -> Vec<String> {
         format!("log {}", digest(driver.log.iter().copied())),
         format!("status {} {}", of_bytes(&driver.groups), of_bytes(&driver.status)),
     ]
-}
-
-pub fn join(numbers: &[u64]) -> String {
-    let texts: Vec<String> = numbers.iter().map(|number| number.to_string()).collect();
-    texts.join(" ")
 }
 
 /// An answer's number and its values.

@@ -1,98 +1,220 @@
 // The calls that bring payloads in: open, begin, begin structural, edit and report structure. Each makes the payloads and the words that
-// its line names, and then the call: where no log is lent it goes to the transaction itself, and where one is lent, all but an edit
-// to the recorder. Areas go by the letters of a script: a accepted, c candidate, r recovery, t the table, l the log.
-use super::AREA_HELD;
-use super::NUMBERS;
-use super::TABLE_HELD;
-use super::held::payload;
-use super::held::words_of;
+// its line names, in scratch, and then the call on what is lent: where no log is lent it goes to the transaction itself, and where one
+// is lent, all but an edit to the recorder. By the letters of a script: a accepted, c candidate, r recovery, t the table, l the log.
+use super::held::Lent;
+use super::held::SECOND;
+use super::held::part;
+use super::held::part_of_words;
+use super::held::within;
 use record::Opening;
-use record::Outcome;
 use record::Record;
 use record::Reporting;
 use record::Stepped;
+use script::Bringing;
+use script::HELD_AREA;
+use script::Seeded;
+use script::fill;
+use script::payload;
+use script::words;
 
-// The outcome of a number that the template holds to 0, 1 or 2; the code is that of a failure.
-fn outcome(number: u64, code: u64) -> Outcome {
-    match number {
-        0 => Outcome::Waiting,
-        1 => Outcome::Failed(code),
-        _ => Outcome::Done,
+// Both payloads of a line, each in its half of the scratch.
+struct Payloads {
+    candidate: Seeded,
+    recovery: Seeded,
+}
+
+fn both(candidate: Seeded, recovery: Seeded) -> Payloads {
+    Payloads {
+        candidate: candidate,
+        recovery: recovery,
     }
 }
 
-// What a report is given: its ticket, and its outcome with the code.
-pub(crate) fn reporting(numbers: [u64; NUMBERS]) -> Reporting {
-    let outcome = outcome(numbers[1], numbers[2]);
-    Reporting {
-        ticket: numbers[0],
-        outcome: outcome,
-    }
+fn make(named: Payloads, scratch: &mut [u8]) {
+    fill(part(scratch, 0, HELD_AREA), named.candidate);
+    fill(part(scratch, SECOND, HELD_AREA), named.recovery);
 }
 
-pub(crate) fn open(numbers: [u64; NUMBERS], l: &mut [u64], a: &mut [u8]) -> Stepped {
-    let given = Opening {
-        revision: numbers[0],
-        serial: numbers[1],
-    };
-    let mut bytes = [0u8; AREA_HELD];
-    let new = payload(&mut bytes, numbers[2], numbers[3]);
+fn open_on(given: Opening, l: &mut [u64], a: &mut [u8], new: &[u8]) -> Stepped {
     if l.len() == 0 {
         return transaction::open(given, a, new);
     }
     recorder::open(given, l, a, new)
 }
 
-// A begin, structural or not.
-pub(crate) fn begin(
+fn open(
+    given: Opening,
+    named: Seeded,
+    lent: Lent,
+    l: &mut [u64],
+    left: &mut [u8],
+    scratch: &mut [u8],
+) -> Stepped {
+    open_on(
+        given,
+        part_of_words(l, lent.log),
+        part(left, 0, lent.accepted),
+        payload(scratch, named),
+    )
+}
+
+// A begin on what it is lent, structural or not.
+fn begin_on(
     structural: bool,
     record: Record,
-    numbers: [u64; NUMBERS],
     l: &mut [u64],
     c: &mut [u8],
     r: &mut [u8],
     t: &mut [u64],
+    new: &[u8],
+    old: &[u8],
+    pairs: &[u64],
 ) -> Stepped {
-    let mut first = [0u8; AREA_HELD];
-    let mut second = [0u8; AREA_HELD];
-    let mut third = [0u64; TABLE_HELD];
-    let new = payload(&mut first, numbers[0], numbers[1]);
-    let old = payload(&mut second, numbers[2], numbers[3]);
-    let pairs = words_of(&mut third, numbers[4], numbers[5]);
-    if structural {
-        if l.len() == 0 {
-            return transaction::begin_structural(record, c, r, t, new, old, pairs);
-        }
-        return recorder::begin_structural(record, l, c, r, t, new, old, pairs);
-    }
     if l.len() == 0 {
-        return transaction::begin(record, c, r, t, new, old, pairs);
+        return transaction::begin_as(structural, record, c, r, t, new, old, pairs);
+    }
+    if structural {
+        return recorder::begin_structural(record, l, c, r, t, new, old, pairs);
     }
     recorder::begin(record, l, c, r, t, new, old, pairs)
 }
 
-pub(crate) fn edit(record: Record, numbers: [u64; NUMBERS], c: &mut [u8], r: &mut [u8]) -> Stepped {
-    let mut first = [0u8; AREA_HELD];
-    let mut second = [0u8; AREA_HELD];
-    let new = payload(&mut first, numbers[0], numbers[1]);
-    let old = payload(&mut second, numbers[2], numbers[3]);
-    transaction::edit(record, c, r, new, old)
+fn begin(
+    structural: bool,
+    named: Payloads,
+    actions: Seeded,
+    record: Record,
+    lent: Lent,
+    l: &mut [u64],
+    left: &mut [u8],
+    right: &mut [u8],
+    t: &mut [u64],
+    scratch: &[u8],
+    pairs: &mut [u64],
+) -> Stepped {
+    begin_on(
+        structural,
+        record,
+        part_of_words(l, lent.log),
+        part(right, 0, lent.candidate),
+        part(left, SECOND, lent.recovery),
+        part_of_words(t, lent.table),
+        within(scratch, 0, named.candidate.count),
+        within(scratch, SECOND, named.recovery.count),
+        words(pairs, actions),
+    )
 }
 
-pub(crate) fn report_structure(
+fn edit(
+    named: Payloads,
     record: Record,
-    numbers: [u64; NUMBERS],
+    lent: Lent,
+    left: &mut [u8],
+    right: &mut [u8],
+    scratch: &[u8],
+) -> Stepped {
+    transaction::edit(
+        record,
+        part(right, 0, lent.candidate),
+        part(left, SECOND, lent.recovery),
+        within(scratch, 0, named.candidate.count),
+        within(scratch, SECOND, named.recovery.count),
+    )
+}
+
+fn report_on(
+    given: Reporting,
+    record: Record,
     l: &mut [u64],
     c: &mut [u8],
     r: &mut [u8],
+    new: &[u8],
+    old: &[u8],
 ) -> Stepped {
-    let given = reporting(numbers);
-    let mut first = [0u8; AREA_HELD];
-    let mut second = [0u8; AREA_HELD];
-    let new = payload(&mut first, numbers[3], numbers[4]);
-    let old = payload(&mut second, numbers[5], numbers[6]);
     if l.len() == 0 {
         return transaction::report_structure(record, given, c, r, new, old);
     }
     recorder::report_structure(record, given, l, c, r, new, old)
+}
+
+fn report_structure(
+    given: Reporting,
+    named: Payloads,
+    record: Record,
+    lent: Lent,
+    l: &mut [u64],
+    left: &mut [u8],
+    right: &mut [u8],
+    scratch: &[u8],
+) -> Stepped {
+    report_on(
+        given,
+        record,
+        part_of_words(l, lent.log),
+        part(right, 0, lent.candidate),
+        part(left, SECOND, lent.recovery),
+        within(scratch, 0, named.candidate.count),
+        within(scratch, SECOND, named.recovery.count),
+    )
+}
+
+pub(crate) fn bring(
+    which: Bringing,
+    record: Record,
+    lent: Lent,
+    l: &mut [u64],
+    left: &mut [u8],
+    right: &mut [u8],
+    t: &mut [u64],
+    scratch: &mut [u8],
+    pairs: &mut [u64],
+) -> Stepped {
+    match which {
+        Bringing::Open {
+            opening,
+            payload: named,
+        } => open(opening, named, lent, l, left, scratch),
+        Bringing::Begin {
+            structural,
+            candidate,
+            recovery,
+            pairs: actions,
+        } => {
+            let named = both(candidate, recovery);
+            make(named, scratch);
+            begin(
+                structural,
+                named,
+                actions,
+                record,
+                lent,
+                l,
+                left,
+                right,
+                t,
+                scratch,
+                pairs,
+            )
+        }
+        Bringing::Edit {
+            candidate,
+            recovery,
+        } => edit(
+            both(candidate, recovery),
+            record,
+            lent,
+            left,
+            right,
+            scratch,
+        ),
+        Bringing::ReportStructure {
+            given,
+            candidate,
+            recovery,
+        } => {
+            let named = both(candidate, recovery);
+            make(named, scratch);
+            report_structure(given, named, record, lent, l, left, right, scratch)
+        }
+    }
 }

@@ -1,33 +1,17 @@
 // The driver: plays a script of calls over the proved libraries. It reads the script from standard input, a command to a line,
 // makes each call in turn on what it holds, and writes the answers to standard output.
-mod bring;
-mod commands;
-mod held;
-mod input;
-mod output;
-mod plain;
-mod play;
-mod show;
-mod steps;
 mod telling;
-mod templates;
-mod whole;
+mod bring;
+mod end;
+mod held;
+mod output;
+mod play;
+mod prepare;
+mod show;
+mod work;
 
 use libc::STDERR_FILENO;
 use libc::STDOUT_FILENO;
-
-// How many bytes of each area, words of the table and of the log, and bytes of the groups and of the status the driver holds. It holds
-// more than any call asks for, so that a script can lend too much.
-const AREA_HELD: usize = 5000;
-
-const TABLE_HELD: usize = 2200;
-
-const LOG_HELD: usize = 5000;
-
-const MARKS_HELD: usize = 300;
-
-// The most numbers that a command has: those of a record.
-const NUMBERS: usize = rows::FIELDS;
 
 fn print_usage(to: i32) {
     io::write_all(

@@ -1,43 +1,45 @@
-// Playing a script: what the driver holds, line after line, and what each command is lent of it.
-use super::AREA_HELD;
-use super::LOG_HELD;
-use super::MARKS_HELD;
-use super::NUMBERS;
-use super::TABLE_HELD;
-use super::bring::begin;
-use super::bring::edit;
-use super::bring::open;
-use super::bring::report_structure;
-use super::commands::Calling;
-use super::commands::Command;
-use super::commands::Line;
-use super::held::ACCEPTED;
-use super::held::ACTIONS;
-use super::held::CANDIDATE;
-use super::held::Counts;
-use super::held::EXCHANGE;
-use super::held::LOG;
-use super::held::RECOVERY;
-use super::held::lent_first;
-use super::held::part;
-use super::held::part_of_words;
-use super::input;
-use super::output::flush_before;
-use super::output::put_told;
-use super::plain;
-use super::steps::ask;
-use super::steps::exchange;
-use super::steps::mark;
-use super::steps::report;
+// Running a script, line after line, and what each command is handed of what the driver holds: both sides of bytes, the table t and the
+// log l.
 use super::telling::After;
 use super::telling::Told;
 use super::telling::after_call;
-use super::telling::after_mark;
 use super::telling::leaving;
-use super::whole;
+use super::telling::replying;
+use super::bring::bring;
+use super::end::end;
+use super::end::mark;
+use super::held::Lent;
+use super::held::SIDE;
+use super::output::ROOM;
+use super::output::put_told;
+use super::prepare::prepare;
+use super::show::digests;
+use super::work::work;
+use console::flush_before;
+use console::next_line;
+use console::start;
 use record::Opening;
 use record::Record;
-use record::Stepped;
+use replies::of_check;
+use replies::of_mark;
+use replies::of_stamp;
+use script::Command;
+use script::HELD_LOG;
+use script::HELD_TABLE;
+use script::LONGEST;
+use script::Planning;
+use script::read;
+use text::front;
+
+// A line is kept up to one byte more than it may have, so that one that is too long is seen to be so.
+const LINE: usize = LONGEST + 1;
+
+// How many bytes are read, and written, at once.
+const CHUNK: usize = 65536;
+
+fn command_of(bytes: &[u8], length: usize) -> Command {
+    read(front(bytes, length))
+}
 
 // The record of an opening at 0, 0 with an empty payload.
 fn first_record() -> Record {
@@ -46,109 +48,111 @@ fn first_record() -> Record {
     opened.state
 }
 
-// A call, on what it is lent.
-fn call_on(
-    which: Calling,
-    record: Record,
-    numbers: [u64; NUMBERS],
-    l: &mut [u64],
-    a: &mut [u8],
-    c: &mut [u8],
-    r: &mut [u8],
-    x: &mut [u8],
-    t: &mut [u64],
-) -> Stepped {
+// Stamps and their checks are lent nothing, and leave the record as it is.
+fn plan(which: Planning, record: Record, lent: Lent) -> After {
     match which {
-        Calling::Open => open(numbers, l, a),
-        Calling::Begin => begin(false, record, numbers, l, c, r, t),
-        Calling::BeginStructural => begin(true, record, numbers, l, c, r, t),
-        Calling::Edit => edit(record, numbers, c, r),
-        Calling::ReportStructure => report_structure(record, numbers, l, c, r),
-        Calling::Ask(which) => ask(which, record, l),
-        Calling::Report(which) => report(which, record, numbers, l, t),
-        Calling::Exchange(which) => exchange(which, record, numbers[0] as usize, l, a, c, r, x),
+        Planning::Stamp(domain) => {
+            replying(record, lent, of_stamp(transaction::stamp(record, domain)))
+        }
+        Planning::Check { domain, stamp } => {
+            replying(
+                record,
+                lent,
+                of_check(transaction::check(record, domain, stamp)),
+            )
+        }
     }
 }
 
-// A call, with the parts of what the driver holds that are lent.
-fn call(
-    which: Calling,
+// The commands that are no calls of the transaction.
+fn aside(
+    command: Command,
     record: Record,
-    lent: Counts,
-    numbers: [u64; NUMBERS],
-    a: &mut [u8],
-    c: &mut [u8],
-    r: &mut [u8],
-    x: &mut [u8],
+    lent: Lent,
+    left: &mut [u8],
+    right: &mut [u8],
     t: &mut [u64],
     l: &mut [u64],
-) -> Stepped {
-    let l = part_of_words(l, lent[LOG]);
-    let a = part(a, lent[ACCEPTED]);
-    let c = part(c, lent[CANDIDATE]);
-    let r = part(r, lent[RECOVERY]);
-    let x = part(x, lent[EXCHANGE]);
-    let t = part_of_words(t, lent[ACTIONS]);
-    call_on(which, record, numbers, l, a, c, r, x, t)
+) -> After {
+    match command {
+        Command::Show => leaving(record, lent, Told::Shown(digests(left, right, t, l))),
+        Command::Prepare(which) => prepare(which, record, lent, left, right, t, l),
+        Command::Mark(which) => replying(record, lent, of_mark(mark(which, lent, left, right))),
+        Command::Plan(which) => plan(which, record, lent),
+        Command::Bad => leaving(record, lent, Told::Bad),
+        _ => leaving(record, lent, Told::Nothing),
+    }
 }
 
-// One line, over all that the driver holds: areas a, c, r and x, the table t, the log l, the groups g and the status s.
+// One command, over all that is held, and scratch for the payloads and words that it names.
 fn perform(
-    line: Line,
-    before: After,
-    a: &mut [u8; AREA_HELD],
-    c: &mut [u8; AREA_HELD],
-    r: &mut [u8; AREA_HELD],
-    x: &mut [u8; AREA_HELD],
-    t: &mut [u64; TABLE_HELD],
-    l: &mut [u64; LOG_HELD],
-    g: &mut [u8; MARKS_HELD],
-    s: &mut [u8; MARKS_HELD],
+    command: Command,
+    record: Record,
+    lent: Lent,
+    left: &mut [u8; SIDE],
+    right: &mut [u8; SIDE],
+    t: &mut [u64; HELD_TABLE],
+    l: &mut [u64; HELD_LOG],
+    scratch: &mut [u8; SIDE],
+    pairs: &mut [u64; HELD_TABLE],
 ) -> After {
-    let record = before.record;
-    let lent = before.lent;
-    let numbers = line.numbers;
-    let command = line.command;
     match command {
-        Command::Plain(which) => plain::perform(which, record, lent, numbers),
-        Command::Whole(which) => {
-            let told = whole::perform(which, numbers, t, l, a, c, r, x, g, s);
-            leaving(record, lent, told)
+        Command::Bring(which) => {
+            after_call(
+                bring(which, record, lent, l, left, right, t, scratch, pairs),
+                lent,
+            )
         }
-        Command::Call(which) => {
-            after_call(call(which, record, lent, numbers, a, c, r, x, t, l), lent)
-        }
-        Command::Mark(which) => after_mark(record, lent, mark(which, lent, numbers, g, s)),
+        Command::Work(which) => after_call(work(which, record, lent, l, t), lent),
+        Command::End(which) => after_call(end(which, record, lent, l, left, right, scratch), lent),
+        _ => aside(command, record, lent, left, right, t, l),
     }
 }
 
 // Line after line, until the input ends.
-pub(crate) fn play() {
-    let a = &mut [0u8; AREA_HELD];
-    let c = &mut [0u8; AREA_HELD];
-    let r = &mut [0u8; AREA_HELD];
-    let x = &mut [0u8; AREA_HELD];
-    let t = &mut [0u64; TABLE_HELD];
-    let l = &mut [0u64; LOG_HELD];
-    let g = &mut [0u8; MARKS_HELD];
-    let s = &mut [0u8; MARKS_HELD];
-    let mut chunk = io::large_buffer();
-    let mut buffer = io::large_buffer();
-    let mut state = leaving(first_record(), lent_first(), Told::Nothing);
-    let mut place = input::start();
+fn run(
+    left: &mut [u8; SIDE],
+    right: &mut [u8; SIDE],
+    t: &mut [u64; HELD_TABLE],
+    l: &mut [u64; HELD_LOG],
+    scratch: &mut [u8; SIDE],
+    pairs: &mut [u64; HELD_TABLE],
+    bytes: &mut [u8; LINE],
+    chunk: &mut [u8; CHUNK],
+    buffer: &mut [u8; CHUNK],
+) {
+    let mut state = leaving(first_record(), Lent::first(), Told::Nothing);
+    let mut place = start();
     let mut written = 0;
     let mut number = 0u64;
     while number < u64::MAX {
         number += 1;
-        written = flush_before(place.at == place.filled, &buffer, written);
-        let next = input::next_command(&mut chunk, place);
-        place = next.place;
+        let due = place.at == place.filled;
+        written = flush_before(due, buffer, written, ROOM, b"drive: standard output");
+        place = next_line(chunk, bytes, place, b"drive: standard input");
         // The end: nothing was left to read, so all that waited has been written out.
         if place.ended & (place.length == 0) {
             return;
         }
-        let line = next.line;
-        state = perform(line, state, a, c, r, x, t, l, g, s);
-        written = put_told(&mut buffer, written, state, number);
+        let command = command_of(bytes, place.length);
+        let record = state.record;
+        let lent = state.lent;
+        state = perform(command, record, lent, left, right, t, l, scratch, pairs);
+        written = put_told(buffer, written, state, number);
     }
+}
+
+// Runs the script on standard input.
+pub(crate) fn play() {
+    run(
+        &mut [0u8; SIDE],
+        &mut [0u8; SIDE],
+        &mut [0u64; HELD_TABLE],
+        &mut [0u64; HELD_LOG],
+        &mut [0u8; SIDE],
+        &mut [0u64; HELD_TABLE],
+        &mut [0u8; LINE],
+        &mut [0u8; CHUNK],
+        &mut [0u8; CHUNK],
+    );
 }

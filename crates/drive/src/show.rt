@@ -1,5 +1,10 @@
 // `show`: digests of all that the driver holds.
 use super::telling::Digests;
+use super::held::SECOND;
+use super::held::THIRD;
+use super::held::within;
+use script::HELD_AREA;
+use script::HELD_MARKS;
 ghost use Prim.Native.Nat.{_<_};
 
 const MODULUS: u64 = 4294967291;
@@ -36,24 +41,15 @@ fn digest_words(words: &[u64]) -> u64 {
     h
 }
 
-pub(crate) fn digests(
-    accepted: &[u8],
-    candidate: &[u8],
-    recovery: &[u8],
-    exchange: &[u8],
-    table: &[u64],
-    log: &[u64],
-    groups: &[u8],
-    status: &[u8],
-) -> Digests {
+pub(crate) fn digests(left: &[u8], right: &[u8], table: &[u64], log: &[u64]) -> Digests {
     Digests {
-        accepted: digest(accepted),
-        candidate: digest(candidate),
-        recovery: digest(recovery),
-        exchange: digest(exchange),
+        accepted: digest(within(left, 0, HELD_AREA)),
+        candidate: digest(within(right, 0, HELD_AREA)),
+        recovery: digest(within(left, SECOND, HELD_AREA)),
+        exchange: digest(within(right, SECOND, HELD_AREA)),
         table: digest_words(table),
         log: digest_words(log),
-        groups: digest(groups),
-        status: digest(status),
+        groups: digest(within(left, THIRD, HELD_MARKS)),
+        status: digest(within(right, THIRD, HELD_MARKS)),
     }
 }

@@ -9,6 +9,9 @@ use crate::place::Place;
 use crate::sizes::*;
 use std::io;
 
+/// More bytes than a program is likely to read at once.
+const LONG: usize = 1 << 17;
+
 pub(super) fn lines(out: Out) -> io::Result<()> {
     writeln!(out, "# lines at the edge of what a script may say")?;
     for width in [LINE_MOST, LINE_MOST + 1] {
@@ -16,6 +19,9 @@ pub(super) fn lines(out: Out) -> io::Result<()> {
             let width = width as usize - front.len() - back.len();
             writeln!(out, "{}{:0>width$}{}", front, 7, back, width = width)?;
         }
+    }
+    for first in ["#", "x"] {
+        writeln!(out, "{}{}\nstamp 7", first, "x".repeat(LONG))?;
     }
     elements(out)?;
     let seeds = SEED_MOST + 1;

@@ -1,0 +1,22 @@
+-- `drive::play::run` is safe and ends: the measure is the number of lines that can still be counted. Assumes nothing.
+use Prim.Native.Nat.{_≤_, _-_}
+use native.Mathlib.Omega.{arith}
+use borrow.Author.Needs.{needs}
+use Rattle.drive.proofs.play.run.Statement.{statement}
+use Rattle.drive.proofs.play.run.Tie as tie
+
+abbrev Inv-loop : tie.InvT-loop
+Inv-loop left₀ right₀ t₀ l₀ scratch₀ pairs₀ bytes₀ chunk₀ buffer₀ state₀ place₀ written₀ number₀ t18 t19 left right t l scratch pairs bytes chunk buffer state place written number =
+    0 ≤ number
+
+abbrev μ-loop : tie.MeasureT-loop
+μ-loop left₀ right₀ t₀ l₀ scratch₀ pairs₀ bytes₀ chunk₀ buffer₀ state₀ place₀ written₀ number₀ t18 t19 left right t l scratch pairs bytes chunk buffer state place written number =
+    18446744073709551615 - number
+
+loop-less : tie.Need-loop-less Inv-loop μ-loop
+loop-less c = omega (arith, c .before .before .before .before .before .before .before .before .before .before .before .before .before .before .before .before .before .before .before .before .before .before .before .before .before .before .loop-test .taken)
+
+pub run-spec : {M : Type 1} → statement M
+run-spec =
+    tie.close
+    (tie.spec Inv-loop μ-loop (search needs) (search needs) (search needs) (search needs) (search needs) (search needs) (search needs) (search needs) (search needs) (search needs) (search needs) (search needs) (search needs) (search needs) loop-less (λ c. omega arith) (search needs))

@@ -1,0 +1,10 @@
+-- `replies::of_refusal` meets its contract. Assumes nothing.
+use borrow.Author.Needs.{needs}
+use Rattle.replies.proofs.of_refusal.Statement.{statement}
+use Rattle.replies.proofs.of_refusal.Tie as tie
+
+returns : tie.Need-returns
+returns c = simp (c .bare .ensures, c .before .number .ensures)
+
+pub of-refusal-spec : {M : Type 1} → statement M
+of-refusal-spec = tie.close (tie.spec (search needs) (search needs) returns)

@@ -1,0 +1,82 @@
+// The commands of a script, with what each is given.
+use super::held::Area;
+use super::seeds::Seeded;
+use record::Opening;
+use record::Record;
+use record::Reporting;
+use step_stamps::SaveStamp;
+
+pub enum Command {
+    // an empty line or a comment
+    Nothing,
+    // a line that is no command
+    Bad,
+    Show,
+    Prepare(Preparing),
+    Bring(Bringing),
+    Work(Working),
+    End(Ending),
+    Plan(Planning),
+    Mark(Marking),
+}
+
+// Commands that set what is held and lent; they are not answered.
+pub enum Preparing {
+    Lend { area: Area, count: usize },
+    Put { area: Area, at: usize, value: u64 },
+    Fill(Seeded),
+    Record(Record),
+}
+
+// Calls that bring payloads.
+pub enum Bringing {
+    Open {
+        opening: Opening,
+        payload: Seeded,
+    },
+    Begin {
+        structural: bool,
+        candidate: Seeded,
+        recovery: Seeded,
+        pairs: Seeded,
+    },
+    Edit {
+        candidate: Seeded,
+        recovery: Seeded,
+    },
+    ReportStructure {
+        given: Reporting,
+        candidate: Seeded,
+        recovery: Seeded,
+    },
+}
+
+// Asking for tickets, and the reports that bring no payload of bytes.
+pub enum Working {
+    AskStructure,
+    AskUpdate,
+    AskRollback,
+    ReportUpdate { given: Reporting, payload: u64 },
+    ReportRollback { given: Reporting, payload: u64 },
+}
+
+// Calls that exchange areas; a length is that of the snapshot.
+pub enum Ending {
+    Commit,
+    Recover(usize),
+    RecoverRetained,
+    Refresh(usize),
+}
+
+// A stamp for a domain, and whether one passes.
+pub enum Planning {
+    Stamp(u64),
+    Check { domain: u64, stamp: SaveStamp },
+}
+
+// Calls of the status part.
+pub enum Marking {
+    Link { id: u64, domain: bool },
+    Initialize(u64),
+    Cancel(u64),
+}

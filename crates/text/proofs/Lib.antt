@@ -1,0 +1,4 @@
+pub mod Lists
+pub mod Turns
+pub mod Putting
+pub mod Decimal

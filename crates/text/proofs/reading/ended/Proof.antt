@@ -1,0 +1,17 @@
+-- `text::reading::ended` meets its contract. Assumes nothing.
+use mathlib.Core.Path.{refl}
+use Rattle.choice.proofs.Picks.{yes, no}
+use Rattle.text.specs.Reading.{ended}
+use Rattle.text.proofs.reading.ended.Statement.{statement}
+use Rattle.text.proofs.reading.ended.Tie as tie
+
+returns : tie.Need-returns
+unfolding ended
+returns c = yes _ (c .if1 .taken) refl
+
+returns-2 : tie.Need-returns-2
+unfolding ended
+returns-2 c = no _ (c .if1 .left) refl
+
+pub ended-spec : {M : Type 1} → statement M
+ended-spec = tie.close (tie.spec returns returns-2)
