@@ -73,10 +73,7 @@ fn begin_on(
     if l.len() == 0 {
         return transaction::begin_as(structural, record, c, r, t, new, old, pairs);
     }
-    if structural {
-        return recorder::begin_structural(record, l, c, r, t, new, old, pairs);
-    }
-    recorder::begin(record, l, c, r, t, new, old, pairs)
+    recorder::begin_as(structural, record, l, c, r, t, new, old, pairs)
 }
 
 fn begin(

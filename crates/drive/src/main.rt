@@ -1,6 +1,5 @@
 // The driver: plays a script of calls over the proved libraries. It reads the script from standard input, a command to a line,
 // makes each call in turn on what it holds, and writes the answers to standard output.
-mod telling;
 mod bring;
 mod end;
 mod held;
@@ -8,6 +7,7 @@ mod output;
 mod play;
 mod prepare;
 mod show;
+mod telling;
 mod work;
 
 use libc::STDERR_FILENO;

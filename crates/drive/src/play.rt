@@ -1,10 +1,5 @@
 // Running a script, line after line, and what each command is handed of what the driver holds: both sides of bytes, the table t and the
 // log l.
-use super::telling::After;
-use super::telling::Told;
-use super::telling::after_call;
-use super::telling::leaving;
-use super::telling::replying;
 use super::bring::bring;
 use super::end::end;
 use super::end::mark;
@@ -12,8 +7,14 @@ use super::held::Lent;
 use super::held::SIDE;
 use super::output::ROOM;
 use super::output::put_told;
-use super::prepare::prepare;
+use super::prepare::settle;
+use super::prepare::write;
 use super::show::digests;
+use super::telling::After;
+use super::telling::Told;
+use super::telling::after_call;
+use super::telling::leaving;
+use super::telling::replying;
 use super::work::work;
 use console::flush_before;
 use console::next_line;
@@ -48,7 +49,7 @@ fn first_record() -> Record {
     opened.state
 }
 
-// Stamps and their checks are lent nothing, and leave the record as it is.
+// Stamps and their checks.
 fn plan(which: Planning, record: Record, lent: Lent) -> After {
     match which {
         Planning::Stamp(domain) => {
@@ -64,6 +65,15 @@ fn plan(which: Planning, record: Record, lent: Lent) -> After {
     }
 }
 
+// The commands that are lent nothing, and leave all as it is.
+fn plain(command: Command, record: Record, lent: Lent) -> After {
+    match command {
+        Command::Bad => leaving(record, lent, Told::Bad),
+        Command::Plan(which) => plan(which, record, lent),
+        _ => leaving(record, lent, Told::Nothing),
+    }
+}
+
 // The commands that are no calls of the transaction.
 fn aside(
     command: Command,
@@ -76,11 +86,12 @@ fn aside(
 ) -> After {
     match command {
         Command::Show => leaving(record, lent, Told::Shown(digests(left, right, t, l))),
-        Command::Prepare(which) => prepare(which, record, lent, left, right, t, l),
         Command::Mark(which) => replying(record, lent, of_mark(mark(which, lent, left, right))),
-        Command::Plan(which) => plan(which, record, lent),
-        Command::Bad => leaving(record, lent, Told::Bad),
-        _ => leaving(record, lent, Told::Nothing),
+        Command::Prepare(which) => {
+            write(which, left, right, t, l);
+            settle(which, record, lent)
+        }
+        _ => plain(command, record, lent),
     }
 }
 

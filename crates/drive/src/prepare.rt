@@ -1,23 +1,23 @@
 // The commands that set what is held and lent: what is lent from here on, one element, a payload in the exchange area, the record.
-use super::telling::After;
-use super::telling::Told;
-use super::telling::leaving;
 use super::held::Lent;
 use super::held::SECOND;
 use super::held::THIRD;
 use super::held::part;
+use super::telling::After;
+use super::telling::Told;
+use super::telling::leaving;
 use record::Record;
 use script::Area;
 use script::HELD_AREA;
-use script::HELD_MARKS;
 use script::Preparing;
 use script::fill;
 
 // A value that is past a byte, which no command has, is left out.
-fn put_byte(bytes: &mut [u8], at: usize, value: u64) {
-    if at < bytes.len() {
+fn put_byte(bytes: &mut [u8], from: usize, at: usize, value: u64) {
+    let place = std::num::wrapping_add_usize(from, at);
+    if place < bytes.len() {
         if value <= rows::TOP8 {
-            bytes[at] = value as u8;
+            bytes[place] = value as u8;
         }
     }
 }
@@ -25,6 +25,15 @@ fn put_byte(bytes: &mut [u8], at: usize, value: u64) {
 fn put_word(words: &mut [u64], at: usize, value: u64) {
     if at < words.len() {
         words[at] = value;
+    }
+}
+
+// Where an area of bytes starts on its side.
+fn start(area: Area) -> usize {
+    match area {
+        Area::Recovery | Area::Exchange => SECOND,
+        Area::Groups | Area::Status => THIRD,
+        _ => 0,
     }
 }
 
@@ -39,38 +48,35 @@ fn put(
     l: &mut [u64],
 ) {
     match area {
-        Area::Accepted => put_byte(part(left, 0, HELD_AREA), at, value),
-        Area::Candidate => put_byte(part(right, 0, HELD_AREA), at, value),
-        Area::Recovery => put_byte(part(left, SECOND, HELD_AREA), at, value),
-        Area::Exchange => put_byte(part(right, SECOND, HELD_AREA), at, value),
+        Area::Accepted | Area::Recovery | Area::Groups => put_byte(left, start(area), at, value),
+        Area::Candidate | Area::Exchange | Area::Status => put_byte(right, start(area), at, value),
         Area::Table => put_word(t, at, value),
         Area::Log => put_word(l, at, value),
-        Area::Groups => put_byte(part(left, THIRD, HELD_MARKS), at, value),
-        Area::Status => put_byte(part(right, THIRD, HELD_MARKS), at, value),
     }
 }
 
-pub(crate) fn prepare(
+// What a command writes to what is held.
+pub(crate) fn write(
     which: Preparing,
-    record: Record,
-    lent: Lent,
     left: &mut [u8],
     right: &mut [u8],
     t: &mut [u64],
     l: &mut [u64],
-) -> After {
+) {
+    match which {
+        Preparing::Put { area, at, value } => put(area, at, value, left, right, t, l),
+        Preparing::Fill(named) => fill(part(right, SECOND, HELD_AREA), named),
+        _ => {}
+    }
+}
+
+// What a command makes of the record, and of how much is lent.
+pub(crate) fn settle(which: Preparing, record: Record, lent: Lent) -> After {
     match which {
         Preparing::Lend { area, count } => {
             leaving(record, lent.lending(area, count), Told::Nothing)
         }
-        Preparing::Put { area, at, value } => {
-            put(area, at, value, left, right, t, l);
-            leaving(record, lent, Told::Nothing)
-        }
-        Preparing::Fill(named) => {
-            fill(part(right, SECOND, HELD_AREA), named);
-            leaving(record, lent, Told::Nothing)
-        }
         Preparing::Record(given) => leaving(given, lent, Told::Nothing),
+        _ => leaving(record, lent, Told::Nothing),
     }
 }

@@ -1,8 +1,8 @@
 // `show`: digests of all that the driver holds.
-use super::telling::Digests;
 use super::held::SECOND;
 use super::held::THIRD;
 use super::held::within;
+use super::telling::Digests;
 use script::HELD_AREA;
 use script::HELD_MARKS;
 ghost use Prim.Native.Nat.{_<_};

@@ -4,11 +4,11 @@
 use super::NUMBERS;
 use super::held::HELD_AREA;
 use super::held::HELD_TABLE;
-use tickets::Live;
 use rows::TOP8;
 use rows::TOP32;
 use text::Read;
 use text::number;
+use tickets::Live;
 ghost use Prim.Native.Nat.{_≤_};
 
 // The largest seed of a payload or of words.
