@@ -1,0 +1,18 @@
+-- `lines::put_record` meets its contract. Assumes nothing.
+use mathlib.Core.Path.{ap, _∙_}
+use borrow.Author.Needs.{needs}
+use Rattle.text.specs.Writing.{putAll, lineText}
+use Rattle.lines.specs.Lines.{recordWord, recordText}
+use Rattle.lines.proofs.put_record.Statement.{statement}
+use Rattle.lines.proofs.put_record.Tie as tie
+
+returns : tie.Need-returns
+unfolding recordText
+returns c =
+    let l = c .before .before in
+    l .put-line .ensures ∙ ap (putAll _) (ap (lineText recordWord) (l .before .before .before .before .numbers .ensures))
+
+pub put-record-spec : {M : Type 1} → statement M
+put-record-spec =
+    tie.close
+    (tie.spec (λ c κs. search needs) (λ c. search needs) (λ c. search needs) (λ c κs. search needs) (λ c. search needs) returns)
