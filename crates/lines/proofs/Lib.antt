@@ -1,2 +1,2 @@
 pub mod Turns
-pub mod Four
+pub mod Putting

@@ -1,7 +1,7 @@
 -- `lines::put_digests` meets its contract: its four lines are put one after the other. Assumes nothing.
 use borrow.Author.Needs.{needs}
 use Rattle.lines.specs.Lines.{digestsText}
-use Rattle.lines.proofs.Four.{put-four}
+use Rattle.lines.proofs.Putting.{put-four}
 use Rattle.lines.proofs.put_digests.Statement.{statement}
 use Rattle.lines.proofs.put_digests.Tie as tie
 

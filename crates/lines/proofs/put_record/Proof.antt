@@ -1,8 +1,7 @@
 -- `lines::put_record` meets its contract. Assumes nothing.
-use mathlib.Core.Path.{ap, _∙_}
 use borrow.Author.Needs.{needs}
-use Rattle.text.specs.Writing.{putAll, lineText}
-use Rattle.lines.specs.Lines.{recordWord, recordText}
+use Rattle.lines.specs.Lines.{recordText}
+use Rattle.lines.proofs.Putting.{line-of}
 use Rattle.lines.proofs.put_record.Statement.{statement}
 use Rattle.lines.proofs.put_record.Tie as tie
 
@@ -10,7 +9,7 @@ returns : tie.Need-returns
 unfolding recordText
 returns c =
     let l = c .before .before in
-    l .put-line .ensures ∙ ap (putAll _) (ap (lineText recordWord) (l .before .before .before .before .numbers .ensures))
+    line-of _ _ _ (l .put-line .ensures) (l .before .before .before .before .numbers .ensures)
 
 pub put-record-spec : {M : Type 1} → statement M
 put-record-spec =

@@ -1,9 +1,7 @@
 -- `lines::put_reply` meets its contract. Assumes nothing.
-use mathlib.Core.Path.{ap, _∙_}
-use mathlib.Core.List.{[]}
 use borrow.Author.Needs.{needs}
-use Rattle.text.specs.Writing.{putAll, lineText}
 use Rattle.lines.specs.Lines.{replyText}
+use Rattle.lines.proofs.Putting.{line-of}
 use Rattle.lines.proofs.put_reply.Statement.{statement}
 use Rattle.lines.proofs.put_reply.Tie as tie
 
@@ -11,7 +9,7 @@ returns : tie.Need-returns
 unfolding replyText
 returns c =
     let l = c .before .before in
-    l .put-line .ensures ∙ ap (putAll _) (ap (lineText []) (l .before .front .ensures))
+    line-of _ _ _ (l .put-line .ensures) (l .before .front .ensures)
 
 pub put-reply-spec : {M : Type 1} → statement M
 put-reply-spec =
