@@ -1,6 +1,6 @@
 -- The texts of the lines that programs write. The words and the order of the numbers are those of the driver's page: "each writes its
--- answer's number, then its values"; "`record` with its fifteen numbers as above, `bytes` with the digests of a, c, r, x, `table` with the
--- digest of t, `log` with the digest of l, `status` with the digests of g and s". Assumes nothing.
+-- answer's number, then its values"; "`record` with its fifteen numbers as above, `bytes` with the digests of a, c, r, x, `table`
+-- with the digest of t, `log` with the digest of l, `status` with the digests of g and s". Assumes nothing.
 use Prim.Native.Nat.{ℕ}
 use mathlib.Core.List.{List, [], _∷_, _++_}
 use lib.ListN.{take}

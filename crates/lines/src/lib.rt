@@ -1,6 +1,6 @@
-// The lines that programs write: an answer, a record, and the digests of what is held. Nothing here reads or writes a file: a line is put
-// into a buffer of which the first `written` bytes are in use, and each function that puts one answers how many are in use then. No
-// function asks anything of its caller: what has no room is left out.
+// The lines that programs write: an answer, a record, and the digests of what is held. Nothing here reads or writes a file: a line is
+// put into a buffer of which the first `written` bytes are in use, and each function that puts one answers how many are in use then.
+// No function asks anything of its caller: what has no room is left out.
 mod digesting;
 
 pub use digesting::digest;

@@ -1,4 +1,4 @@
--- `lines::digesting::digest` meets its contract: the digest of the bytes that are left stays what it was at the start. Assumes nothing.
+-- `lines::digesting::digest` meets its contract: from the bytes that are left the digest stays what it is of all. Assumes nothing.
 use mathlib.Core.Path.{_≡_, refl, sym, _∙_}
 use Prim.Native.Nat.{_<_, _-_}
 use native.Mathlib.Omega.{arith}
@@ -37,5 +37,5 @@ returns c = sym (digest-end _ _ _ (c .loop-test .left)) ∙ c .before .loop .inv
 pub digest-spec : {M : Type 1} → statement M
 digest-spec =
     tie.close
-    (tie.spec Inv-loop μ-loop (λ c. (omega arith, refl)) (λ c. search needs) (λ c. search needs) cast-h add-h add-h-2 (λ c. search needs)
-    (λ c. search needs) loop-again returns)
+    (tie.spec Inv-loop μ-loop (λ c. (omega arith, refl)) (λ c. search needs) (λ c. search needs) cast-h add-h add-h-2
+    (λ c. search needs) (λ c. search needs) loop-again returns)
