@@ -2,44 +2,11 @@
 use super::held::SECOND;
 use super::held::THIRD;
 use super::held::within;
-use super::telling::Digests;
+use lines::Digests;
+use lines::digest;
+use lines::digest_words;
 use script::HELD_AREA;
 use script::HELD_MARKS;
-ghost use Prim.Native.Nat.{_<_};
-
-const MODULUS: u64 = 4294967291;
-
-fn wide(byte: u8) -> u64
-    ensures { λ r. ⌜ r < 4294967291 ⌝ }
-{
-    byte as u64
-}
-
-fn reduced(word: u64) -> u64
-    ensures { λ r. ⌜ r < 4294967291 ⌝ }
-{
-    if word < MODULUS { word } else { word % MODULUS }
-}
-
-fn digest(bytes: &[u8]) -> u64 {
-    let mut h = 0u64;
-    let mut i = 0;
-    while i < bytes.len() {
-        h = (h * 31 + wide(bytes[i]) + 1) % MODULUS;
-        i += 1;
-    }
-    h
-}
-
-fn digest_words(words: &[u64]) -> u64 {
-    let mut h = 0u64;
-    let mut i = 0;
-    while i < words.len() {
-        h = (h * 31 + reduced(words[i]) + 1) % MODULUS;
-        i += 1;
-    }
-    h
-}
 
 pub(crate) fn digests(left: &[u8], right: &[u8], table: &[u64], log: &[u64]) -> Digests {
     Digests {
