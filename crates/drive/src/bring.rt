@@ -3,6 +3,7 @@
 // is lent, all but an edit to the recorder. By the letters of a script: a accepted, c candidate, r recovery, t the table, l the log.
 use super::held::Lent;
 use super::held::SECOND;
+use super::held::SIDE;
 use super::held::part;
 use super::held::part_of_words;
 use super::held::within;
@@ -12,6 +13,8 @@ use record::Reporting;
 use record::Stepped;
 use script::Bringing;
 use script::HELD_AREA;
+use script::HELD_LOG;
+use script::HELD_TABLE;
 use script::Seeded;
 use script::fill;
 use script::payload;
@@ -159,12 +162,12 @@ pub(crate) fn bring(
     which: Bringing,
     record: Record,
     lent: Lent,
-    l: &mut [u64],
-    left: &mut [u8],
-    right: &mut [u8],
-    t: &mut [u64],
-    scratch: &mut [u8],
-    pairs: &mut [u64],
+    l: &mut [u64; HELD_LOG],
+    left: &mut [u8; SIDE],
+    right: &mut [u8; SIDE],
+    t: &mut [u64; HELD_TABLE],
+    scratch: &mut [u8; SIDE],
+    pairs: &mut [u64; HELD_TABLE],
 ) -> Stepped {
     match which {
         Bringing::Open {

@@ -79,10 +79,10 @@ fn aside(
     command: Command,
     record: Record,
     lent: Lent,
-    left: &mut [u8],
-    right: &mut [u8],
-    t: &mut [u64],
-    l: &mut [u64],
+    left: &mut [u8; SIDE],
+    right: &mut [u8; SIDE],
+    t: &mut [u64; HELD_TABLE],
+    l: &mut [u64; HELD_LOG],
 ) -> After {
     match command {
         Command::Show => leaving(record, lent, Told::Shown(digests(left, right, t, l))),

@@ -1,6 +1,7 @@
 // The commands that set what is held and lent: what is lent from here on, one element, a payload in the exchange area, the record.
 use super::held::Lent;
 use super::held::SECOND;
+use super::held::SIDE;
 use super::held::THIRD;
 use super::held::part;
 use super::telling::After;
@@ -9,7 +10,10 @@ use super::telling::leaving;
 use record::Record;
 use script::Area;
 use script::HELD_AREA;
+use script::HELD_LOG;
+use script::HELD_TABLE;
 use script::Preparing;
+use script::Seeded;
 use script::fill;
 
 // A value that is past a byte, which no command has, is left out.
@@ -42,10 +46,10 @@ fn put(
     area: Area,
     at: usize,
     value: u64,
-    left: &mut [u8],
-    right: &mut [u8],
-    t: &mut [u64],
-    l: &mut [u64],
+    left: &mut [u8; SIDE],
+    right: &mut [u8; SIDE],
+    t: &mut [u64; HELD_TABLE],
+    l: &mut [u64; HELD_LOG],
 ) {
     match area {
         Area::Accepted | Area::Recovery | Area::Groups => put_byte(left, start(area), at, value),
@@ -55,17 +59,21 @@ fn put(
     }
 }
 
+fn fill_exchange(right: &mut [u8], named: Seeded) {
+    fill(part(right, SECOND, HELD_AREA), named);
+}
+
 // What a command writes to what is held.
 pub(crate) fn write(
     which: Preparing,
-    left: &mut [u8],
-    right: &mut [u8],
-    t: &mut [u64],
-    l: &mut [u64],
+    left: &mut [u8; SIDE],
+    right: &mut [u8; SIDE],
+    t: &mut [u64; HELD_TABLE],
+    l: &mut [u64; HELD_LOG],
 ) {
     match which {
         Preparing::Put { area, at, value } => put(area, at, value, left, right, t, l),
-        Preparing::Fill(named) => fill(part(right, SECOND, HELD_AREA), named),
+        Preparing::Fill(named) => fill_exchange(right, named),
         _ => {}
     }
 }
