@@ -199,14 +199,11 @@ pub(crate) fn bring(
         Bringing::Edit {
             candidate,
             recovery,
-        } => edit(
-            both(candidate, recovery),
-            record,
-            lent,
-            left,
-            right,
-            scratch,
-        ),
+        } => {
+            let named = both(candidate, recovery);
+            make(named, scratch);
+            edit(named, record, lent, left, right, scratch)
+        }
         Bringing::ReportStructure {
             given,
             candidate,

@@ -7,4 +7,4 @@ returns : tie.Need-returns
 returns c = rw (c .before .of .ensures) at (c .ask-rollback .ensures)
 
 pub ask-rollback-spec : {M : Type 1} → statement M
-ask-rollback-spec = tie.close (tie.spec (search needs) (search needs) returns)
+ask-rollback-spec = tie.close (tie.spec (λ c. search needs) (λ c. search needs) returns)

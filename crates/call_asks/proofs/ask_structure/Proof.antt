@@ -7,4 +7,4 @@ returns : tie.Need-returns
 returns c = rw (c .before .of .ensures) at (c .ask-structure .ensures)
 
 pub ask-structure-spec : {M : Type 1} → statement M
-ask-structure-spec = tie.close (tie.spec (search needs) (search needs) returns)
+ask-structure-spec = tie.close (tie.spec (λ c. search needs) (λ c. search needs) returns)

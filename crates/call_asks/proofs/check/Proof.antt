@@ -10,4 +10,4 @@ returns : tie.Need-returns
 returns c = ap (λ (s : Said). told s (c .before .args .r)) (c .check .ensures)
 
 pub check-spec : {M : Type 1} → statement M
-check-spec = tie.close (tie.spec (search needs) returns)
+check-spec = tie.close (tie.spec (λ c. search needs) returns)

@@ -10,4 +10,4 @@ returns : tie.Need-returns
 returns c = ap (λ (s : Said). told s (c .before .args .r)) (c .stamp .ensures)
 
 pub stamp-spec : {M : Type 1} → statement M
-stamp-spec = tie.close (tie.spec (search needs) returns)
+stamp-spec = tie.close (tie.spec (λ c. search needs) returns)

@@ -12,4 +12,4 @@ returns c =
     told-by _ _ (c .before .before .payload .ensures) (rw (s .before .is-sized .ensures) at (s .«open» .ensures))
 
 pub open-spec : {M : Type 1} → statement M
-open-spec = tie.close (tie.spec (search needs) (search needs) (search needs) (search needs) returns)
+open-spec = tie.close (tie.spec (λ c. search needs) (λ c. search needs) (λ c. search needs) (λ c. search needs) returns)

@@ -12,5 +12,5 @@ returns c =
 
 pub recover-spec : {M : Type 1} → statement M
 recover-spec =
-    tie.close (tie.spec (search needs) (search needs) (search needs) (search needs) (search needs)
-    (search needs) (search needs) returns)
+    tie.close (tie.spec (λ c. search needs) (λ c. search needs) (λ c. search needs) (λ c. search needs) (λ c. search needs)
+    (λ c. search needs) (λ c. search needs) returns)

@@ -6,5 +6,5 @@ use Rattle.call_recoveries.proofs.recover_retained.Tie as tie
 
 pub recover-retained-spec : {M : Type 1} → statement M
 recover-retained-spec =
-    tie.close (tie.spec (search needs) (search needs) (search needs) (search needs) (search needs)
-    (search needs) (search needs) (search needs) (λ c. search replaced))
+    tie.close (tie.spec (λ c. search needs) (λ c. search needs) (λ c. search needs) (λ c. search needs) (λ c. search needs)
+    (λ c. search needs) (λ c. search needs) (λ c. search needs) (λ c. search replaced))

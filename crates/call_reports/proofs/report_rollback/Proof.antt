@@ -12,4 +12,4 @@ returns c =
     (s .before .of .ensures) (s .before .before .is-sized .ensures)
 
 pub report-rollback-spec : {M : Type 1} → statement M
-report-rollback-spec = tie.close (tie.spec (search needs) (search needs) (search needs) (search needs) (search needs) (search needs) returns)
+report-rollback-spec = tie.close (tie.spec (λ c. search needs) (λ c. search needs) (λ c. search needs) (λ c. search needs) (λ c. search needs) (λ c. search needs) returns)

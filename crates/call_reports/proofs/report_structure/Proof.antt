@@ -5,4 +5,4 @@ use Rattle.call_reports.proofs.report_structure.Statement.{statement}
 use Rattle.call_reports.proofs.report_structure.Tie as tie
 
 pub report-structure-spec : {M : Type 1} → statement M
-report-structure-spec = tie.close (tie.spec (search needs) (search needs) (search needs) (search needs) (search needs) (search needs) (search needs) (search needs) (λ c. search both-areas))
+report-structure-spec = tie.close (tie.spec (λ c. search needs) (λ c. search needs) (λ c. search needs) (λ c. search needs) (λ c. search needs) (λ c. search needs) (λ c. search needs) (λ c. search needs) (λ c. search both-areas))

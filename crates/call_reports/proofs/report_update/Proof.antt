@@ -11,4 +11,4 @@ returns c =
     by-table _ _ _ _ _ (k .store .ensures) (s .report-update .ensures) (s .before .of .ensures) (s .before .before .is-sized .ensures)
 
 pub report-update-spec : {M : Type 1} → statement M
-report-update-spec = tie.close (tie.spec (search needs) (search needs) (search needs) (search needs) (search needs) returns)
+report-update-spec = tie.close (tie.spec (λ c. search needs) (λ c. search needs) (λ c. search needs) (λ c. search needs) (λ c. search needs) returns)

@@ -12,4 +12,4 @@ returns c =
     (s .before .before .before .is-sized .ensures) (s .before .before .is-sized2 .ensures)
 
 pub edit-spec : {M : Type 1} → statement M
-edit-spec = tie.close (tie.spec (search needs) (search needs) (search needs) (search needs) (search needs) (search needs) (search needs) (search needs) returns)
+edit-spec = tie.close (tie.spec (λ c. search needs) (λ c. search needs) (λ c. search needs) (λ c. search needs) (λ c. search needs) (λ c. search needs) (λ c. search needs) (λ c. search needs) returns)

@@ -5,4 +5,4 @@ use Rattle.moves.proofs.exchange.Statement.{statement}
 use Rattle.moves.proofs.exchange.Tie as tie
 
 pub exchange-spec : {M : Type 1} → statement M
-exchange-spec = tie.close (tie.spec (search needs) (search needs) (search needs) (search needs) (λ c. search ends) (λ c. search ends))
+exchange-spec = tie.close (tie.spec (λ c. search needs) (λ c. search needs) (λ c. search needs) (λ c. search needs) (λ c. search ends) (λ c. search ends))

@@ -5,4 +5,4 @@ use Rattle.moves.proofs.pairs.Statement.{statement}
 use Rattle.moves.proofs.pairs.Tie as tie
 
 pub pairs-spec : {M : Type 1} → statement M
-pairs-spec = tie.close (tie.spec (search needs) (search needs) (search needs) (λ c. search ends) (λ c. search ends))
+pairs-spec = tie.close (tie.spec (λ c. search needs) (λ c. search needs) (λ c. search needs) (λ c. search ends) (λ c. search ends))

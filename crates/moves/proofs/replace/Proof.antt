@@ -5,4 +5,4 @@ use Rattle.moves.proofs.replace.Statement.{statement}
 use Rattle.moves.proofs.replace.Tie as tie
 
 pub replace-spec : {M : Type 1} → statement M
-replace-spec = tie.close (tie.spec (search needs) (search needs) (search needs) (search needs) (search needs) (λ c. search ends) (λ c. search ends))
+replace-spec = tie.close (tie.spec (λ c. search needs) (λ c. search needs) (λ c. search needs) (λ c. search needs) (λ c. search needs) (λ c. search ends) (λ c. search ends))

@@ -5,4 +5,4 @@ use Rattle.moves.proofs.store.Statement.{statement}
 use Rattle.moves.proofs.store.Tie as tie
 
 pub store-spec : {M : Type 1} → statement M
-store-spec = tie.close (tie.spec (search needs) (search needs) (search needs) (λ c. search ends) (λ c. search ends))
+store-spec = tie.close (tie.spec (λ c. search needs) (λ c. search needs) (λ c. search needs) (λ c. search ends) (λ c. search ends))

@@ -13,4 +13,4 @@ returns-3 : tie.Need-returns-3
 returns-3 c = simp (c .of-refusal .ensures, c .before .before .checked .given .1)
 
 pub of-check-spec : {M : Type 1} → statement M
-of-check-spec = tie.close (tie.spec (search needs) (search needs) (search needs) (search needs) (search needs) (search needs) returns returns-2 returns-3)
+of-check-spec = tie.close (tie.spec (λ c. search needs) (λ c. search needs) (λ c. search needs) (λ c. search needs) (λ c. search needs) (λ c. search needs) returns returns-2 returns-3)

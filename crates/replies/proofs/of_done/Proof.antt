@@ -13,4 +13,4 @@ returns-3 : tie.Need-returns-3
 returns-3 c = simp (c .row2 .ensures, c .before .before .before .before .number .ensures, c .before .before .was2 .given .1)
 
 pub of-done-spec : {M : Type 1} → statement M
-of-done-spec = tie.close (tie.spec (search needs) (search needs) (search needs) (search needs) (search needs) (search needs) (search needs) returns returns-2 returns-3)
+of-done-spec = tie.close (tie.spec (λ c. search needs) (λ c. search needs) (λ c. search needs) (λ c. search needs) (λ c. search needs) (λ c. search needs) (λ c. search needs) returns returns-2 returns-3)

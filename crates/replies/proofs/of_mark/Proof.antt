@@ -10,4 +10,4 @@ returns-2 : tie.Need-returns-2
 returns-2 c = simp (c .of-refusal .ensures, c .before .before .marked .given .1)
 
 pub of-mark-spec : {M : Type 1} → statement M
-of-mark-spec = tie.close (tie.spec (search needs) (search needs) (search needs) (search needs) returns returns-2)
+of-mark-spec = tie.close (tie.spec (λ c. search needs) (λ c. search needs) (λ c. search needs) (λ c. search needs) returns returns-2)

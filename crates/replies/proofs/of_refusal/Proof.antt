@@ -7,4 +7,4 @@ returns : tie.Need-returns
 returns c = simp (c .bare .ensures, c .before .number .ensures)
 
 pub of-refusal-spec : {M : Type 1} → statement M
-of-refusal-spec = tie.close (tie.spec (search needs) (search needs) returns)
+of-refusal-spec = tie.close (tie.spec (λ c. search needs) (λ c. search needs) returns)
