@@ -1,2 +1,3 @@
 pub mod Seeding
 pub mod Fitting
+pub mod Passing

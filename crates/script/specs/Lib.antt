@@ -1,3 +1,4 @@
 pub mod Held
 pub mod Seeds
 pub mod Templates
+pub mod Finding

@@ -1,8 +1,8 @@
 -- Whether a line fits a template, and the numbers that it has: what the driver's page says of words, numbers and their ranges.
 -- Assumes nothing.
-use Prim.Native.Nat.{ℕ, zero, suc, _+_}
+use Prim.Native.Nat.{ℕ, suc, _+_}
 use Prim.Native.Char.{code}
-use mathlib.Core.Bool.{Bool, true, false}
+use mathlib.Core.Bool.{Bool, false}
 use mathlib.Core.List.{List, [], _∷_}
 use lib.Dec.{eqb, ltb, leb}
 use lib.ListN.{length, getD, drop, set, replicate}

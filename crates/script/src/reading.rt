@@ -8,10 +8,9 @@ use super::commands::Marking;
 use super::commands::Planning;
 use super::commands::Preparing;
 use super::commands::Working;
+use super::finding::first_fitting;
 use super::held::Area;
 use super::seeds::Seeded;
-use super::templates::fits;
-use super::templates::next_template;
 use record::Opening;
 use record::Outcome;
 use record::Reporting;
@@ -183,23 +182,18 @@ fn command(key: u8, n: Numbers) -> Command {
     }
 }
 
-// The first template that the line fits.
-fn first_fitting(line: &[u8], templates: &[u8]) -> Command {
-    let mut at = 0;
-    while at < templates.len() {
-        let key = templates[at];
-        let fitted = fits(line, templates, at + 1);
-        if fitted.fits {
-            let numbers = fitted.numbers;
-            return command(key, numbers);
-        }
-        at = next_template(templates, at + 1);
+// The command of a line. An empty line and a comment say nothing, however long.
+pub fn read(line: &[u8]) -> Command {
+    if line.len() == 0 {
+        return Command::Nothing;
     }
-    Command::Bad
-}
-
-fn find(line: &[u8]) -> Command {
-    first_fitting(
+    if line[0] == b'#' {
+        return Command::Nothing;
+    }
+    if LONGEST < line.len() {
+        return Command::Bad;
+    }
+    let found = first_fitting(
         line,
         b".show
 llend B N
@@ -226,19 +220,10 @@ Llink N F
 Iinitialize N
 Ccancel N
 ",
-    )
-}
-
-// The command of a line. An empty line and a comment say nothing, however long.
-pub fn read(line: &[u8]) -> Command {
-    if line.len() == 0 {
-        return Command::Nothing;
-    }
-    if line[0] == b'#' {
-        return Command::Nothing;
-    }
-    if LONGEST < line.len() {
+    );
+    if !found.found {
         return Command::Bad;
     }
-    find(line)
+    let numbers = found.numbers;
+    command(found.key, numbers)
 }

@@ -10,7 +10,6 @@ use rows::TOP32;
 use text::Read;
 use text::number;
 ghost use mathlib.Core.Path.{_≡_};
-ghost use Prim.Native.Nat.{_≤_};
 ghost use Rattle.text.specs.Reading.{numberAt};
 ghost use Rattle.script.specs.Templates.{mostAt, letters, placeIn, letterOf, takenOf, sameAs, takenAt};
 ghost use Rattle.script.specs.Templates.{soFar, kept, fitted, fitsAt};
@@ -169,18 +168,4 @@ pub(crate) fn fits(line: &[u8], templates: &[u8], from: usize) -> Fitted
         i += 1;
     }
     fitting(false, numbers)
-}
-
-// The place after the next newline.
-pub(crate) fn next_template(templates: &[u8], from: usize) -> usize
-    ensures { λ next. ⌜ from ≤ next ⌝ }
-{
-    let mut i = from;
-    while i < templates.len() {
-        if templates[i] == b'\n' {
-            return i + 1;
-        }
-        i += 1;
-    }
-    i
 }
