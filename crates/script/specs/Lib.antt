@@ -2,3 +2,4 @@ pub mod Held
 pub mod Seeds
 pub mod Templates
 pub mod Finding
+pub mod Reading

@@ -2,6 +2,7 @@
 use mathlib.Core.Path.{_≡_, refl, sym, ap, _∙_}
 use Prim.Native.Nat.{_-_}
 use mathlib.Core.Bool.{false}
+use native.Mathlib.Omega.{arith}
 use lib.ListN.{length, drop}
 use borrow.Author.Needs.{needs}
 use Rattle.script.specs.Finding.{firstFrom, firstFitting}
@@ -37,5 +38,5 @@ returns-2 c = sym (first-end _ _ _ (c .loop-test .left)) ∙ c .before .loop .in
 pub first-fitting-spec : {M : Type 1} → statement M
 first-fitting-spec =
     tie.close
-    (tie.spec Inv-loop μ-loop (λ c. refl) (search needs) (search needs) (search needs) returns (search needs) (search needs) (search needs)
-    loop-again returns-2)
+    (tie.spec Inv-loop μ-loop (λ c. refl) (λ c. omega arith) (λ c κs. tt) (λ c. omega arith) returns (λ c. omega arith) (λ c κs. tt)
+    (λ c. omega (arith, c .next-template .ensures .0)) loop-again returns-2)

@@ -2,6 +2,7 @@
 use mathlib.Core.Path.{_≡_, refl, sym, _∙_}
 use mathlib.Core.Logic.{⊎-elim}
 use Prim.Native.Nat.{_-_}
+use native.Mathlib.Omega.{arith}
 use lib.ListN.{length, drop}
 use borrow.Author.Needs.{needs}
 use Rattle.script.specs.Templates.{soFar, fitsFrom, fitsAt}
@@ -49,5 +50,5 @@ returns-3 c = let t = c .before in c .fitting3 .ensures ∙ sym (fit-end _ _ _ _
 pub fits-spec : {M : Type 1} → statement M
 fits-spec =
     tie.close
-    (tie.spec Inv-loop μ-loop loop-holds (search needs) (search needs) returns (search needs) (search needs) (search needs) returns-2
-    (search needs) (search needs) (search needs) (search needs) (search needs) loop-again (search needs) returns-3)
+    (tie.spec Inv-loop μ-loop loop-holds (λ c. omega arith) (λ c κs. tt) returns (λ c κs. tt) (search needs) (λ c κs. tt) returns-2
+    (search needs) (search needs) (λ c κs. tt) (λ c. omega arith) (λ c. omega arith) loop-again (λ c κs. tt) returns-3)
