@@ -1,9 +1,10 @@
 -- `script::reading::read` meets its contract. Assumes nothing.
-use mathlib.Core.Path.{refl}
+use mathlib.Core.Path.{refl, sym, ap, _∙_}
 use borrow.Author.Needs.{needs}
-use borrow.Author.Tests.{eq-eqb, ne-eqb, lt-ltb, le-ltb}
+use borrow.Author.Tests.{eq-eqb, ne-eqb, lt-ltb, le-ltb, not-true, not-false}
 use Rattle.choice.proofs.Picks.{yes, no}
-use Rattle.script.specs.Reading.{readAs}
+use Rattle.script.specs.Reading.{bytesOf, linesOf, templates, readAs}
+use Rattle.script.specs.declared.finding.Found.{Found}
 use Rattle.script.proofs.reading.read.Statement.{statement}
 use Rattle.script.proofs.reading.read.Tie as tie
 
@@ -22,18 +23,20 @@ returns-3 c =
     no _ (ne-eqb _ _ (b .before .before .if1 .left)) (no _ (ne-eqb _ _ (b .if2 .left)) (yes _ (lt-ltb _ _ (c .if3 .taken)) refl))
 
 returns-4 : tie.Need-returns-4
-unfolding readAs
+unfolding readAs templates linesOf bytesOf
 returns-4 c =
     let s = c .before .before .before .before in
     let b = s .before in
-    no _ (ne-eqb _ _ (b .before .before .if1 .left)) (no _ (ne-eqb _ _ (b .if2 .left)) (no _ (le-ltb _ _ (s .if3 .left)) refl))
+    no _ (ne-eqb _ _ (b .before .before .if1 .left)) (no _ (ne-eqb _ _ (b .if2 .left)) (no _ (le-ltb _ _ (s .if3 .left))
+    (no _ (ap (λ (f : Found). f .found) (sym (c .before .before .first-fitting .ensures)) ∙ not-true _ (c .if4 .taken)) refl)))
 
 returns-5 : tie.Need-returns-5
-unfolding readAs
+unfolding readAs templates linesOf bytesOf
 returns-5 c =
     let s = c .before .before .before .before .before .before in
     let b = s .before in
-    no _ (ne-eqb _ _ (b .before .before .if1 .left)) (no _ (ne-eqb _ _ (b .if2 .left)) (no _ (le-ltb _ _ (s .if3 .left)) refl))
+    no _ (ne-eqb _ _ (b .before .before .if1 .left)) (no _ (ne-eqb _ _ (b .if2 .left)) (no _ (le-ltb _ _ (s .if3 .left))
+    (yes _ (ap (λ (f : Found). f .found) (sym (c .before .before .before .before .first-fitting .ensures)) ∙ not-false _ (c .before .before .if4 .left)) refl)))
 
 pub read-spec : {M : Type 1} → statement M
 read-spec =
