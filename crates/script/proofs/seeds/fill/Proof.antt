@@ -44,5 +44,5 @@ returns-2 c = sym (seed-end _ _ _ _ _ (c .loop-test .left)) ∙ c .before .loop 
 pub fill-spec : {M : Type 1} → statement M
 fill-spec =
     tie.close
-    (tie.spec Inv-loop μ-loop (search needs) loop-holds (search needs) returns (search needs) (search needs) (search needs) (search needs)
-    loop-again (search needs) returns-2)
+    (tie.spec Inv-loop μ-loop (λ c. omega arith) loop-holds (search needs) returns (λ c. omega arith) (λ c κs. tt) (λ c. omega arith)
+    (λ c. omega arith) loop-again (search needs) returns-2)

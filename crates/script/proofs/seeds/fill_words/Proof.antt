@@ -1,6 +1,7 @@
 -- `script::seeds::fill_words` meets its contract: to fill what is left stays what it was at the start. Assumes nothing.
 use mathlib.Core.Path.{_≡_, sym, _∙_}
 use Prim.Native.Nat.{_-_, _^_}
+use native.Mathlib.Omega.{arith}
 use lib.ListN.{length}
 use borrow.Author.Needs.{needs}
 use Rattle.script.specs.Seeds.{wordsOver}
@@ -35,5 +36,5 @@ returns-2 c = sym (seed-end _ _ _ _ _ (c .loop-test .left)) ∙ c .before .loop 
 pub fill-words-spec : {M : Type 1} → statement M
 fill-words-spec =
     tie.close
-    (tie.spec Inv-loop μ-loop loop-holds (search needs) returns (search needs) (search needs) (search needs) (search needs) (search needs)
-    loop-again (search needs) returns-2)
+    (tie.spec Inv-loop μ-loop loop-holds (search needs) returns (λ c κs. tt) (search needs) (λ c. omega arith) (λ c. omega arith)
+    (λ c. omega arith) loop-again (search needs) returns-2)
