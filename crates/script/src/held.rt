@@ -1,4 +1,7 @@
 // What whoever runs a script holds: more than any call asks for, so that a script can lend too much.
+use rows::TOP8;
+ghost use mathlib.Core.Path.{_≡_};
+ghost use Rattle.script.specs.Held.{areaAt, heldOf, mostOf};
 
 // How many bytes of each of the four areas, words of the table and of the log, and bytes of the groups and of the status are held.
 pub const HELD_AREA: usize = 5000;
@@ -22,7 +25,9 @@ pub enum Area {
 
 impl Area {
     // The area whose letter stands at this place in `acrxtlgs`.
-    pub fn at(place: u64) -> Area {
+    pub fn at(place: u64) -> Area
+        ensures { λ a. ⌜ a ≡ areaAt place ⌝ }
+    {
         match place {
             0 => Area::Accepted,
             1 => Area::Candidate,
@@ -36,20 +41,34 @@ impl Area {
     }
 
     // How many elements are held of it.
-    pub fn held(self) -> usize {
+    pub fn held(self) -> usize
+        ensures { λ n. ⌜ n ≡ heldOf self ⌝ }
+    {
         match self {
-            Area::Accepted | Area::Candidate | Area::Recovery | Area::Exchange => HELD_AREA,
+            Area::Accepted => HELD_AREA,
+            Area::Candidate => HELD_AREA,
+            Area::Recovery => HELD_AREA,
+            Area::Exchange => HELD_AREA,
             Area::Table => HELD_TABLE,
             Area::Log => HELD_LOG,
-            Area::Groups | Area::Status => HELD_MARKS,
+            Area::Groups => HELD_MARKS,
+            Area::Status => HELD_MARKS,
         }
     }
 
     // The largest number that an element of it takes.
-    pub fn most(self) -> u64 {
+    pub fn most(self) -> u64
+        ensures { λ n. ⌜ n ≡ mostOf self ⌝ }
+    {
         match self {
-            Area::Table | Area::Log => u64::MAX,
-            _ => rows::TOP8,
+            Area::Accepted => TOP8,
+            Area::Candidate => TOP8,
+            Area::Recovery => TOP8,
+            Area::Exchange => TOP8,
+            Area::Table => u64::MAX,
+            Area::Log => u64::MAX,
+            Area::Groups => TOP8,
+            Area::Status => TOP8,
         }
     }
 }

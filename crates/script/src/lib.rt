@@ -1,6 +1,7 @@
 // A line of a script as a typed command, and the payloads and words that it names. Nothing here reads or writes a file: whoever runs
 // scripts reads lines and holds what the commands speak of. Every number of a command that `read` gives is in its range.
 mod commands;
+mod finding;
 mod held;
 mod reading;
 mod seeds;
@@ -13,6 +14,8 @@ pub use commands::Marking;
 pub use commands::Planning;
 pub use commands::Preparing;
 pub use commands::Working;
+pub use finding::Found;
+pub use finding::first_fitting;
 pub use held::Area;
 pub use held::HELD_AREA;
 pub use held::HELD_LOG;

@@ -8,15 +8,16 @@ use super::commands::Marking;
 use super::commands::Planning;
 use super::commands::Preparing;
 use super::commands::Working;
+use super::finding::first_fitting;
 use super::held::Area;
 use super::seeds::Seeded;
-use super::templates::fits;
-use super::templates::next_template;
 use record::Opening;
 use record::Outcome;
 use record::Reporting;
 use rows::Row;
 use step_stamps::SaveStamp;
+ghost use mathlib.Core.Path.{_≡_};
+ghost use Rattle.script.specs.Reading.{readAs};
 
 // The most bytes that a line may have, without its newline.
 pub const LONGEST: usize = 1000;
@@ -69,49 +70,46 @@ fn put(area: Area, at: usize, value: u64) -> Command {
     })
 }
 
-fn record(n: Numbers) -> Command {
-    match rows::record_of(n) {
-        Row::Fits(given) => Command::Prepare(Preparing::Record(given)),
-        Row::Misfit => Command::Bad,
-    }
-}
-
 fn preparing(key: u8, n: Numbers) -> Command {
+    let area = Area::at(n[0]);
+    let at = n[1] as usize;
     match key {
-        b'l' => lend(Area::at(n[0]), n[1] as usize),
-        b'p' => put(Area::at(n[0]), n[1] as usize, n[2]),
+        b'l' => lend(area, at),
+        b'p' => put(area, at, n[2]),
         b'f' => Command::Prepare(Preparing::Fill(seeded(n[0], n[1]))),
-        _ => record(n),
-    }
-}
-
-fn open(n: Numbers) -> Bringing {
-    Bringing::Open {
-        opening: Opening {
-            revision: n[0],
-            serial: n[1],
+        _ => match rows::record_of(n) {
+            Row::Fits(given) => Command::Prepare(Preparing::Record(given)),
+            Row::Misfit => Command::Bad,
         },
-        payload: seeded(n[2], n[3]),
     }
 }
 
-fn begin(structural: bool, n: Numbers) -> Bringing {
+fn begin(structural: bool, candidate: Seeded, recovery: Seeded, pairs: Seeded) -> Bringing {
     Bringing::Begin {
         structural: structural,
-        candidate: seeded(n[0], n[1]),
-        recovery: seeded(n[2], n[3]),
-        pairs: seeded(n[4], n[5]),
+        candidate: candidate,
+        recovery: recovery,
+        pairs: pairs,
     }
 }
 
 fn bringing(key: u8, n: Numbers) -> Bringing {
+    let first = seeded(n[0], n[1]);
+    let second = seeded(n[2], n[3]);
+    let third = seeded(n[4], n[5]);
     match key {
-        b'o' => open(n),
-        b'b' => begin(false, n),
-        b'B' => begin(true, n),
+        b'o' => Bringing::Open {
+            opening: Opening {
+                revision: n[0],
+                serial: n[1],
+            },
+            payload: second,
+        },
+        b'b' => begin(false, first, second, third),
+        b'B' => begin(true, first, second, third),
         b'e' => Bringing::Edit {
-            candidate: seeded(n[0], n[1]),
-            recovery: seeded(n[2], n[3]),
+            candidate: first,
+            recovery: second,
         },
         _ => Bringing::ReportStructure {
             given: reporting(n),
@@ -122,17 +120,19 @@ fn bringing(key: u8, n: Numbers) -> Bringing {
 }
 
 fn working(key: u8, n: Numbers) -> Working {
+    let given = reporting(n);
+    let payload = n[3];
     match key {
         b'1' => Working::AskStructure,
         b'2' => Working::AskUpdate,
         b'3' => Working::AskRollback,
         b'U' => Working::ReportUpdate {
-            given: reporting(n),
-            payload: n[3],
+            given: given,
+            payload: payload,
         },
         _ => Working::ReportRollback {
-            given: reporting(n),
-            payload: n[3],
+            given: given,
+            payload: payload,
         },
     }
 }
@@ -183,23 +183,20 @@ fn command(key: u8, n: Numbers) -> Command {
     }
 }
 
-// The first template that the line fits.
-fn first_fitting(line: &[u8], templates: &[u8]) -> Command {
-    let mut at = 0;
-    while at < templates.len() {
-        let key = templates[at];
-        let fitted = fits(line, templates, at + 1);
-        if fitted.fits {
-            let numbers = fitted.numbers;
-            return command(key, numbers);
-        }
-        at = next_template(templates, at + 1);
+// The command of a line. An empty line and a comment say nothing, however long.
+pub fn read(line: &[u8]) -> Command
+    ensures { λ c. ⌜ c ≡ readAs (now (line .entry)) c ⌝ }
+{
+    if line.len() == 0 {
+        return Command::Nothing;
     }
-    Command::Bad
-}
-
-fn find(line: &[u8]) -> Command {
-    first_fitting(
+    if line[0] == b'#' {
+        return Command::Nothing;
+    }
+    if LONGEST < line.len() {
+        return Command::Bad;
+    }
+    let found = first_fitting(
         line,
         b".show
 llend B N
@@ -226,19 +223,10 @@ Llink N F
 Iinitialize N
 Ccancel N
 ",
-    )
-}
-
-// The command of a line. An empty line and a comment say nothing, however long.
-pub fn read(line: &[u8]) -> Command {
-    if line.len() == 0 {
-        return Command::Nothing;
-    }
-    if line[0] == b'#' {
-        return Command::Nothing;
-    }
-    if LONGEST < line.len() {
+    );
+    if !found.found {
         return Command::Bad;
     }
-    find(line)
+    let numbers = found.numbers;
+    command(found.key, numbers)
 }

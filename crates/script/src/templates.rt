@@ -4,12 +4,15 @@
 use super::NUMBERS;
 use super::held::HELD_AREA;
 use super::held::HELD_TABLE;
+use tickets::Live;
 use rows::TOP8;
 use rows::TOP32;
 use text::Read;
 use text::number;
-use tickets::Live;
-ghost use Prim.Native.Nat.{_≤_};
+ghost use mathlib.Core.Path.{_≡_};
+ghost use Rattle.text.specs.Reading.{numberAt};
+ghost use Rattle.script.specs.Templates.{mostAt, letters, placeIn, letterOf, takenOf, sameAs, takenAt};
+ghost use Rattle.script.specs.Templates.{soFar, kept, fitted, fitsAt};
 
 // The largest seed of a payload or of words.
 const SEED: u64 = 1000000;
@@ -19,6 +22,9 @@ const OUTCOME: u64 = 2;
 
 // The last kind of a live ticket.
 const KIND: u64 = Live::ROLLBACK as u64;
+
+// How many areas there are.
+const AREAS: u64 = 8;
 
 // Whether a line fits a template, and the numbers that were read of it, with zeros after them.
 pub(crate) struct Fitted {
@@ -33,7 +39,9 @@ enum Taken {
     Wrong,
 }
 
-fn fitting(fits: bool, numbers: [u64; NUMBERS]) -> Fitted {
+fn fitting(fits: bool, numbers: [u64; NUMBERS]) -> Fitted
+    ensures { λ f. ⌜ f ≡ fitted fits numbers ⌝ }
+{
     Fitted {
         fits: fits,
         numbers: numbers,
@@ -41,7 +49,9 @@ fn fitting(fits: bool, numbers: [u64; NUMBERS]) -> Fitted {
 }
 
 // The largest number that may stand where the template has this capital.
-fn most(mark: u8) -> u64 {
+fn most(mark: u8) -> u64
+    ensures { λ n. ⌜ n ≡ mostAt mark ⌝ }
+{
     match mark {
         b'L' => HELD_AREA as u64,
         b'C' => HELD_TABLE as u64,
@@ -55,9 +65,11 @@ fn most(mark: u8) -> u64 {
     }
 }
 
-// The letter of an area, as its place in `acrxtlgs`.
-fn letter(byte: u8, next: usize) -> Taken {
-    let value = match byte {
+// The place of a byte among the letters of the areas, or their count.
+fn place(byte: u8) -> u64
+    ensures { λ n. ⌜ n ≡ placeIn letters byte ⌝ }
+{
+    match byte {
         b'a' => 0,
         b'c' => 1,
         b'r' => 2,
@@ -66,15 +78,26 @@ fn letter(byte: u8, next: usize) -> Taken {
         b'l' => 5,
         b'g' => 6,
         b's' => 7,
-        _ => return Taken::Wrong,
-    };
-    Taken::Number {
-        value: value,
-        next: next,
+        _ => AREAS,
     }
 }
 
-fn decimal(line: &[u8], at: usize, mark: u8) -> Taken {
+fn letter(byte: u8, next: usize) -> Taken
+    ensures { λ t. ⌜ t ≡ letterOf byte next ⌝ }
+{
+    let value = place(byte);
+    if value < AREAS {
+        return Taken::Number {
+            value: value,
+            next: next,
+        };
+    }
+    Taken::Wrong
+}
+
+fn decimal(line: &[u8], at: usize, mark: u8) -> Taken
+    ensures { λ t. ⌜ t ≡ takenOf (numberAt (now (line .entry)) at (mostAt mark)) ⌝ }
+{
     match number(line, at, most(mark)) {
         Read::Number { value, next } => Taken::Number {
             value: value,
@@ -84,14 +107,18 @@ fn decimal(line: &[u8], at: usize, mark: u8) -> Taken {
     }
 }
 
-fn same(byte: u8, mark: u8, next: usize) -> Taken {
+fn same(byte: u8, mark: u8, next: usize) -> Taken
+    ensures { λ t. ⌜ t ≡ sameAs byte mark next ⌝ }
+{
     if byte == mark {
         return Taken::Same { next: next };
     }
     Taken::Wrong
 }
 
-fn take(line: &[u8], at: usize, mark: u8) -> Taken {
+fn take(line: &[u8], at: usize, mark: u8) -> Taken
+    ensures { λ t. ⌜ t ≡ takenAt (now (line .entry)) at mark ⌝ }
+{
     if line.len() <= at {
         return Taken::Wrong;
     }
@@ -106,7 +133,9 @@ fn take(line: &[u8], at: usize, mark: u8) -> Taken {
 }
 
 // The number goes to its place, and the place after that is answered.
-fn keep(numbers: &mut [u64; NUMBERS], count: usize, value: u64) -> usize {
+fn keep(numbers: &mut [u64; NUMBERS], count: usize, value: u64) -> usize
+    ensures { λ n. ⌜ soFar (now (numbers .exit)) n ≡ kept (soFar (now (numbers .entry)) count) value ⌝ }
+{
     if count < NUMBERS {
         numbers[count] = value;
         count + 1
@@ -116,7 +145,9 @@ fn keep(numbers: &mut [u64; NUMBERS], count: usize, value: u64) -> usize {
 }
 
 // Whether the whole line is as the template that starts at a place says, up to a newline; and its numbers, in order.
-pub(crate) fn fits(line: &[u8], templates: &[u8], from: usize) -> Fitted {
+pub(crate) fn fits(line: &[u8], templates: &[u8], from: usize) -> Fitted
+    ensures { λ f. ⌜ f ≡ fitsAt (now (line .entry)) (now (templates .entry)) from ⌝ }
+{
     let mut numbers = [0u64; NUMBERS];
     let mut at = 0;
     let mut count = 0;
@@ -137,18 +168,4 @@ pub(crate) fn fits(line: &[u8], templates: &[u8], from: usize) -> Fitted {
         i += 1;
     }
     fitting(false, numbers)
-}
-
-// The place after the next newline.
-pub(crate) fn next_template(templates: &[u8], from: usize) -> usize
-    ensures { λ next. ⌜ from ≤ next ⌝ }
-{
-    let mut i = from;
-    while i < templates.len() {
-        if templates[i] == b'\n' {
-            return i + 1;
-        }
-        i += 1;
-    }
-    i
 }

@@ -1,0 +1,3 @@
+pub mod Seeding
+pub mod Fitting
+pub mod Passing

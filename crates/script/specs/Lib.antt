@@ -1,0 +1,5 @@
+pub mod Held
+pub mod Seeds
+pub mod Templates
+pub mod Finding
+pub mod Reading
