@@ -7,18 +7,18 @@ use super::held::SIDE;
 use super::held::part;
 use super::held::part_of_words;
 use super::held::within;
+use holdings::HELD_AREA;
+use holdings::HELD_LOG;
+use holdings::HELD_TABLE;
+use holdings::Seeded;
+use holdings::fill;
+use holdings::payload;
+use holdings::words;
 use record::Opening;
 use record::Record;
 use record::Reporting;
 use record::Stepped;
 use script::Bringing;
-use script::HELD_AREA;
-use script::HELD_LOG;
-use script::HELD_TABLE;
-use script::Seeded;
-use script::fill;
-use script::payload;
-use script::words;
 
 // Both payloads of a line, each in its half of the scratch.
 struct Payloads {

@@ -1,9 +1,9 @@
 // What the driver holds, and how much of it is lent. A call can be lent parts of two arrays, but not two parts of one, so the areas stand
 // on two sides: `left` holds the accepted area, the recovery area and the groups, `right` the candidate area, the exchange area and the
 // status, each side in this order. No call needs two of one side, but for recovering from the retained payload, which reads a copy.
-use script::Area;
-use script::HELD_AREA;
-use script::HELD_MARKS;
+use holdings::Area;
+use holdings::HELD_AREA;
+use holdings::HELD_MARKS;
 use transaction::AREA;
 use transaction::TABLE;
 

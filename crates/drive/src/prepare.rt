@@ -7,14 +7,14 @@ use super::held::part;
 use super::telling::After;
 use super::telling::Told;
 use super::telling::leaving;
+use holdings::Area;
+use holdings::HELD_AREA;
+use holdings::HELD_LOG;
+use holdings::HELD_TABLE;
+use holdings::Seeded;
+use holdings::fill;
 use record::Record;
-use script::Area;
-use script::HELD_AREA;
-use script::HELD_LOG;
-use script::HELD_TABLE;
 use script::Preparing;
-use script::Seeded;
-use script::fill;
 
 // A value that is past a byte, which no command has, is left out.
 fn put_byte(bytes: &mut [u8], from: usize, at: usize, value: u64) {

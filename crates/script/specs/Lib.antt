@@ -1,5 +1,1 @@
-pub mod Held
-pub mod Seeds
-pub mod Templates
-pub mod Finding
 pub mod Reading

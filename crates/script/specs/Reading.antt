@@ -7,7 +7,7 @@ use lib.Dec.{eqb, ltb}
 use lib.ListN.{length, getD}
 use Rattle.choice.specs.Pick.{pick}
 use Rattle.text.specs.Writing.{newlineByte}
-use Rattle.script.specs.Finding.{firstFitting}
+use Rattle.templates.specs.Finding.{firstFitting}
 use Rattle.script.specs.declared.commands.Command.{Command}
 use Rattle.script.specs.declared.commands.Command.the-variants.{Nothing, Bad}
 

@@ -1,6 +1,6 @@
 // The commands of a script, with what each is given.
-use super::held::Area;
-use super::seeds::Seeded;
+use holdings::Area;
+use holdings::Seeded;
 use record::Opening;
 use record::Record;
 use record::Reporting;

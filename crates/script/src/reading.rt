@@ -1,6 +1,5 @@
 // Which command a line is: the first template that it fits says so by its key, the byte before it. Numbers are in their ranges by the
 // template, but for those that go by the area, and the number of a ticket of kind 0.
-use super::NUMBERS;
 use super::commands::Bringing;
 use super::commands::Command;
 use super::commands::Ending;
@@ -8,14 +7,15 @@ use super::commands::Marking;
 use super::commands::Planning;
 use super::commands::Preparing;
 use super::commands::Working;
-use super::finding::first_fitting;
-use super::held::Area;
-use super::seeds::Seeded;
+use holdings::Area;
+use holdings::Seeded;
 use record::Opening;
 use record::Outcome;
 use record::Reporting;
 use rows::Row;
 use step_stamps::SaveStamp;
+use templates::NUMBERS;
+use templates::first_fitting;
 ghost use mathlib.Core.Path.{_≡_};
 ghost use Rattle.script.specs.Reading.{readAs};
 

@@ -1,3 +1,0 @@
-pub mod Seeding
-pub mod Fitting
-pub mod Passing
