@@ -19,20 +19,9 @@ use record::Record;
 use record::Reporting;
 use record::Stepped;
 use script::Bringing;
+use script::Payloads;
 
 // Both payloads of a line, each in its half of the scratch.
-struct Payloads {
-    candidate: Seeded,
-    recovery: Seeded,
-}
-
-fn both(candidate: Seeded, recovery: Seeded) -> Payloads {
-    Payloads {
-        candidate: candidate,
-        recovery: recovery,
-    }
-}
-
 fn make(named: Payloads, scratch: &mut [u8]) {
     fill(part(scratch, 0, HELD_AREA), named.candidate);
     fill(part(scratch, SECOND, HELD_AREA), named.recovery);
@@ -170,22 +159,17 @@ pub(crate) fn bring(
     pairs: &mut [u64; HELD_TABLE],
 ) -> Stepped {
     match which {
-        Bringing::Open {
-            opening,
-            payload: named,
-        } => open(opening, named, lent, l, left, scratch),
+        Bringing::Open { opening, payload } => open(opening, payload, lent, l, left, scratch),
         Bringing::Begin {
             structural,
-            candidate,
-            recovery,
-            pairs: actions,
+            payloads,
+            pairs: named,
         } => {
-            let named = both(candidate, recovery);
-            make(named, scratch);
+            make(payloads, scratch);
             begin(
                 structural,
+                payloads,
                 named,
-                actions,
                 record,
                 lent,
                 l,
@@ -196,22 +180,13 @@ pub(crate) fn bring(
                 pairs,
             )
         }
-        Bringing::Edit {
-            candidate,
-            recovery,
-        } => {
-            let named = both(candidate, recovery);
-            make(named, scratch);
-            edit(named, record, lent, left, right, scratch)
+        Bringing::Edit(payloads) => {
+            make(payloads, scratch);
+            edit(payloads, record, lent, left, right, scratch)
         }
-        Bringing::ReportStructure {
-            given,
-            candidate,
-            recovery,
-        } => {
-            let named = both(candidate, recovery);
-            make(named, scratch);
-            report_structure(given, named, record, lent, l, left, right, scratch)
+        Bringing::ReportStructure { given, payloads } => {
+            make(payloads, scratch);
+            report_structure(given, payloads, record, lent, l, left, right, scratch)
         }
     }
 }

@@ -28,7 +28,13 @@ pub enum Preparing {
     Record(Record),
 }
 
-// Calls that bring payloads.
+// The candidate payload and the recovery payload.
+pub struct Payloads {
+    pub candidate: Seeded,
+    pub recovery: Seeded,
+}
+
+// Calls that bring payloads; the pairs of a begin are its actions.
 pub enum Bringing {
     Open {
         opening: Opening,
@@ -36,18 +42,13 @@ pub enum Bringing {
     },
     Begin {
         structural: bool,
-        candidate: Seeded,
-        recovery: Seeded,
+        payloads: Payloads,
         pairs: Seeded,
     },
-    Edit {
-        candidate: Seeded,
-        recovery: Seeded,
-    },
+    Edit(Payloads),
     ReportStructure {
         given: Reporting,
-        candidate: Seeded,
-        recovery: Seeded,
+        payloads: Payloads,
     },
 }
 

@@ -7,6 +7,7 @@ pub use commands::Bringing;
 pub use commands::Command;
 pub use commands::Ending;
 pub use commands::Marking;
+pub use commands::Payloads;
 pub use commands::Planning;
 pub use commands::Preparing;
 pub use commands::Working;

@@ -4,6 +4,7 @@ use super::commands::Bringing;
 use super::commands::Command;
 use super::commands::Ending;
 use super::commands::Marking;
+use super::commands::Payloads;
 use super::commands::Planning;
 use super::commands::Preparing;
 use super::commands::Working;
@@ -84,37 +85,37 @@ fn preparing(key: u8, n: Numbers) -> Command {
     }
 }
 
-fn begin(structural: bool, candidate: Seeded, recovery: Seeded, pairs: Seeded) -> Bringing {
+// The lengths and the seeds of both payloads, in the order of a line.
+fn payloads(new: u64, new_seed: u64, old: u64, old_seed: u64) -> Payloads {
+    Payloads {
+        candidate: seeded(new, new_seed),
+        recovery: seeded(old, old_seed),
+    }
+}
+
+fn begin(structural: bool, n: Numbers) -> Bringing {
     Bringing::Begin {
         structural: structural,
-        candidate: candidate,
-        recovery: recovery,
-        pairs: pairs,
+        payloads: payloads(n[0], n[1], n[2], n[3]),
+        pairs: seeded(n[4], n[5]),
     }
 }
 
 fn bringing(key: u8, n: Numbers) -> Bringing {
-    let first = seeded(n[0], n[1]);
-    let second = seeded(n[2], n[3]);
-    let third = seeded(n[4], n[5]);
     match key {
         b'o' => Bringing::Open {
             opening: Opening {
                 revision: n[0],
                 serial: n[1],
             },
-            payload: second,
+            payload: seeded(n[2], n[3]),
         },
-        b'b' => begin(false, first, second, third),
-        b'B' => begin(true, first, second, third),
-        b'e' => Bringing::Edit {
-            candidate: first,
-            recovery: second,
-        },
+        b'b' => begin(false, n),
+        b'B' => begin(true, n),
+        b'e' => Bringing::Edit(payloads(n[0], n[1], n[2], n[3])),
         _ => Bringing::ReportStructure {
             given: reporting(n),
-            candidate: seeded(n[3], n[4]),
-            recovery: seeded(n[5], n[6]),
+            payloads: payloads(n[3], n[4], n[5], n[6]),
         },
     }
 }
