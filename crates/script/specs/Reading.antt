@@ -51,7 +51,7 @@ templates =
     "Ccancel N" ∷ [])
 
 -- "a line of no bytes is empty, and a line whose first byte is `#` is a comment whatever follows"; one of "more than 1,000 bytes" is no
--- command, nor one that fits no template. Any other line is the command that is found.
+-- command, nor one that fits no template. Of any other line nothing is said: `found` is the answer itself.
 unfoldable pub readAs : List ℕ → Command → Command
 readAs line found =
     pick (eqb (length line) 0) Nothing

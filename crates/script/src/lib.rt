@@ -1,5 +1,5 @@
 // A line of a script as a typed command. Nothing here reads or writes a file: whoever runs scripts reads lines and holds what the
-// commands speak of. Every number of a command that `read` gives is in its range.
+// commands speak of. Every number of a command that `read` gives is in its range, by the code; no contract says so.
 mod commands;
 mod reading;
 

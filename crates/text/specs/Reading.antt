@@ -1,4 +1,5 @@
--- A decimal number that is read: what stands in a line from a place on. Assumes nothing.
+-- A decimal number that is read: what stands in a line from a place on. The driver's page: "A number is one or more digits, leading zeros
+-- allowed, nothing else." Assumes nothing.
 use Prim.Native.Nat.{ℕ, _+_, _-_, _*_}
 use mathlib.Core.Bool.{Bool, true, false}
 use mathlib.Core.List.{List, [], _∷_}

@@ -1,4 +1,5 @@
--- What is written to a buffer of which the first bytes are in use, and the text of a line. Assumes nothing.
+-- What is written to a buffer of which the first bytes are in use, and the text of a line: the driver's page, "parted by single spaces".
+-- Assumes nothing.
 use Prim.Native.Nat.{ℕ, zero, suc, _+_, _/_, _%_}
 use mathlib.Core.Bool.{Bool, true, not}
 use mathlib.Core.List.{List, [], _∷_, _++_}
