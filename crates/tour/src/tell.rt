@@ -8,7 +8,7 @@ use step_stamps::Checked;
 use step_stamps::Stamping;
 
 // The domain of the plan.
-pub const DOMAIN: u64 = 3;
+pub(crate) const DOMAIN: u64 = 3;
 
 fn tell(what: &[u8], number: u64) {
     io::write_all(STDOUT_FILENO, what);
@@ -17,13 +17,13 @@ fn tell(what: &[u8], number: u64) {
 }
 
 // How a reload is to end.
-pub enum End {
+pub(crate) enum End {
     Commit,
     Recovery,
 }
 
 // The work of an action, which fails with code 5 where it is `broken`; and its report.
-pub fn work(ticket: u64, action: u32, broken: u32) -> Reporting {
+pub(crate) fn work(ticket: u64, action: u32, broken: u32) -> Reporting {
     let outcome = if action == broken {
         tell(b"  fails: action ", action as u64);
         Outcome::Failed(5)
@@ -38,7 +38,7 @@ pub fn work(ticket: u64, action: u32, broken: u32) -> Reporting {
 }
 
 // The undoing of an action, and its report.
-pub fn restore(ticket: u64, action: u32) -> Reporting {
+pub(crate) fn restore(ticket: u64, action: u32) -> Reporting {
     tell(b"  undone: action ", action as u64);
     Reporting {
         ticket: ticket,
@@ -47,7 +47,7 @@ pub fn restore(ticket: u64, action: u32) -> Reporting {
 }
 
 // Writes what the call that ended a reload answered.
-pub fn ended(by: End, last: Stepped) {
+pub(crate) fn ended(by: End, last: Stepped) {
     let answer = last.answer;
     let number = answer.number();
     match by {
@@ -57,7 +57,7 @@ pub fn ended(by: End, last: Stepped) {
 }
 
 // Writes 1 where the stamp of a plan passes, and 0 where it does not.
-pub fn verdict(r: Record, plan: Stamping) {
+pub(crate) fn verdict(r: Record, plan: Stamping) {
     let Stamping::Taken(stamp) = plan else {
         return;
     };
