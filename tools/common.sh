@@ -29,6 +29,21 @@ build_oracle() { cargo build --release --offline --quiet --manifest-path oracle/
 # The kit's own loader, C library and emulator for this machine.
 kit_toolchain() { echo "$(dirname "$(dirname "$(readlink -f "$(command -v rt)")")")/on/$(uname -m)/toolchain"; }
 
+# Makes a folder for temporary files and prints its name; whoever asks removes it. A check writes thousands of files to it, which on a
+# disk takes longer than many a proof: it stands in memory, where that has room and lets programs run.
+temporary_folder() {
+    local memory=/dev/shm room=4194304 folder # room: in KiB
+    if [ -z "${TMPDIR:-}" ] && [ -w "$memory" ] &&
+        awk -v at="$memory" '$2 == at && $3 == "tmpfs" && $4 !~ /noexec/ { found = 1 } END { exit !found }' /proc/mounts &&
+        [ "$(df --output=avail "$memory" | tail -n 1)" -ge "$room" ]; then
+        folder=$(mktemp -d -p "$memory")
+    else
+        folder=$(mktemp -d)
+    fi
+    chmod 711 "$folder" # `rt` runs programs as nobody, from a folder below it
+    echo "$folder"
+}
+
 machine() { echo "$(uname -m), $(nproc) cores, $(lscpu | sed -n 's/^Model name: *//p' | head -n 1)"; }
 
 # Puts what comes on standard input in a document, between the lines `<!-- TOOL -->` and `<!-- end -->`.

@@ -4,6 +4,7 @@
 use holdings::Area;
 use holdings::HELD_AREA;
 use holdings::HELD_MARKS;
+use script::Preparing;
 use transaction::AREA;
 use transaction::TABLE;
 
@@ -44,8 +45,16 @@ impl Lent {
         }
     }
 
+    // What is lent after a command that sets it, or leaves it.
+    pub(crate) fn after(self, which: Preparing) -> Lent {
+        match which {
+            Preparing::Lend { area, count } => self.lending(area, count),
+            _ => self,
+        }
+    }
+
     // The same but for one area.
-    pub(crate) fn lending(mut self, area: Area, count: usize) -> Lent {
+    fn lending(mut self, area: Area, count: usize) -> Lent {
         match area {
             Area::Accepted => self.accepted = count,
             Area::Candidate => self.candidate = count,

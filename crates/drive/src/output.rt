@@ -1,18 +1,23 @@
 // The lines that answer a command, put into a buffer of which the first `written` bytes wait. It answers how many wait now.
-use super::telling::After;
+use super::play::CHUNK;
 use super::telling::Told;
 use lines::put_digests;
 use lines::put_record;
 use lines::put_reply;
+use record::Record;
 use text::put_line;
 
 // More than the longest answer has, which is that of `show`.
 pub(crate) const ROOM: usize = 1000;
 
-// The answer to the line of this number, and what the line left.
-pub(crate) fn put_told(buffer: &mut [u8], written: usize, after: After, line: u64) -> usize {
-    let record = after.record;
-    let told = after.told;
+// The answer to the line of this number, which left this record.
+pub(crate) fn put_told(
+    buffer: &mut [u8; CHUNK],
+    written: usize,
+    told: Told,
+    record: Record,
+    line: u64,
+) -> usize {
     match told {
         Told::Nothing => written,
         Told::Bad => put_line(buffer, written, b"?", &[line]),

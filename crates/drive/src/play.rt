@@ -14,8 +14,8 @@ use super::telling::After;
 use super::telling::Told;
 use super::telling::after_call;
 use super::telling::leaving;
-use super::telling::replying;
 use super::work::work;
+use console::Place;
 use console::flush_before;
 use console::next_line;
 use console::start;
@@ -23,6 +23,7 @@ use holdings::HELD_LOG;
 use holdings::HELD_TABLE;
 use record::Opening;
 use record::Record;
+use replies::Reply;
 use replies::of_check;
 use replies::of_mark;
 use replies::of_stamp;
@@ -36,10 +37,22 @@ use text::front;
 const LINE: usize = LONGEST + 1;
 
 // How many bytes are read, and written, at once.
-const CHUNK: usize = 65536;
+pub(crate) const CHUNK: usize = 65536;
 
-fn command_of(bytes: &[u8], length: usize) -> Command {
+fn read_on(chunk: &mut [u8; CHUNK], bytes: &mut [u8; LINE], place: Place) -> Place {
+    next_line(chunk, bytes, place, b"drive: standard input")
+}
+
+fn command_in(bytes: &[u8], length: usize) -> Command {
     read(front(bytes, length))
+}
+
+fn command_of(bytes: &[u8; LINE], length: usize) -> Command {
+    command_in(bytes, length)
+}
+
+fn write_on(buffer: &[u8; CHUNK], written: usize, due: bool) -> usize {
+    flush_before(due, buffer, written, ROOM, b"drive: standard output")
 }
 
 // The record of an opening at 0, 0 with an empty payload.
@@ -50,31 +63,23 @@ fn first_record() -> Record {
 }
 
 // Stamps and their checks.
-fn plan(which: Planning, record: Record, lent: Lent) -> After {
+fn plan(which: Planning, record: Record) -> Reply {
     match which {
-        Planning::Stamp(domain) => {
-            replying(record, lent, of_stamp(transaction::stamp(record, domain)))
-        }
-        Planning::Check { domain, stamp } => {
-            replying(
-                record,
-                lent,
-                of_check(transaction::check(record, domain, stamp)),
-            )
-        }
+        Planning::Stamp(domain) => of_stamp(transaction::stamp(record, domain)),
+        Planning::Check { domain, stamp } => of_check(transaction::check(record, domain, stamp)),
     }
 }
 
-// The commands that are lent nothing, and leave all as it is.
-fn plain(command: Command, record: Record, lent: Lent) -> After {
+// What is told of the commands that are lent nothing.
+fn plain(command: Command, record: Record) -> Told {
     match command {
-        Command::Bad => leaving(record, lent, Told::Bad),
-        Command::Plan(which) => plan(which, record, lent),
-        _ => leaving(record, lent, Told::Nothing),
+        Command::Bad => Told::Bad,
+        Command::Plan(which) => Told::Reply(plan(which, record)),
+        _ => Told::Nothing,
     }
 }
 
-// The commands that are no calls of the transaction.
+// What is told of the commands that are no calls of the transaction, and what they do to what is held.
 fn aside(
     command: Command,
     record: Record,
@@ -83,15 +88,31 @@ fn aside(
     right: &mut [u8; SIDE],
     t: &mut [u64; HELD_TABLE],
     l: &mut [u64; HELD_LOG],
-) -> After {
+) -> Told {
     match command {
-        Command::Show => leaving(record, lent, Told::Shown(digests(left, right, t, l))),
-        Command::Mark(which) => replying(record, lent, of_mark(mark(which, lent, left, right))),
+        Command::Show => Told::Shown(digests(left, right, t, l)),
+        Command::Mark(which) => Told::Reply(of_mark(mark(which, lent, left, right))),
         Command::Prepare(which) => {
             write(which, left, right, t, l);
-            settle(which, record, lent)
+            Told::Nothing
         }
-        _ => plain(command, record, lent),
+        _ => plain(command, record),
+    }
+}
+
+// What is lent after a command.
+fn lent_after(command: Command, lent: Lent) -> Lent {
+    match command {
+        Command::Prepare(which) => lent.after(which),
+        _ => lent,
+    }
+}
+
+// The record after a command that is no call of the transaction.
+fn kept(command: Command, record: Record) -> Record {
+    match command {
+        Command::Prepare(which) => settle(which, record),
+        _ => record,
     }
 }
 
@@ -109,61 +130,57 @@ fn perform(
 ) -> After {
     match command {
         Command::Bring(which) => {
-            after_call(
-                bring(which, record, lent, l, left, right, t, scratch, pairs),
-                lent,
-            )
+            after_call(bring(which, record, lent, l, left, right, t, scratch, pairs))
         }
-        Command::Work(which) => after_call(work(which, record, lent, l, t), lent),
-        Command::End(which) => after_call(end(which, record, lent, l, left, right, scratch), lent),
-        _ => aside(command, record, lent, left, right, t, l),
+        Command::Work(which) => after_call(work(which, record, lent, l, t)),
+        Command::End(which) => after_call(end(which, record, lent, l, left, right, scratch)),
+        _ => leaving(
+            kept(command, record),
+            aside(command, record, lent, left, right, t, l),
+        ),
     }
 }
 
-// Line after line, until the input ends.
-fn run(
-    left: &mut [u8; SIDE],
-    right: &mut [u8; SIDE],
-    t: &mut [u64; HELD_TABLE],
-    l: &mut [u64; HELD_LOG],
-    scratch: &mut [u8; SIDE],
-    pairs: &mut [u64; HELD_TABLE],
-    bytes: &mut [u8; LINE],
-    chunk: &mut [u8; CHUNK],
-    buffer: &mut [u8; CHUNK],
-) {
-    let mut state = leaving(first_record(), Lent::first(), Told::Nothing);
+// Runs the script on standard input, line after line, until it ends.
+pub(crate) fn play() {
+    let mut left = [0u8; SIDE];
+    let mut right = [0u8; SIDE];
+    let mut t = [0u64; HELD_TABLE];
+    let mut l = [0u64; HELD_LOG];
+    let mut scratch = [0u8; SIDE];
+    let mut pairs = [0u64; HELD_TABLE];
+    let mut bytes = [0u8; LINE];
+    let mut chunk = [0u8; CHUNK];
+    let mut buffer = [0u8; CHUNK];
+    let mut record = first_record();
+    let mut lent = Lent::first();
     let mut place = start();
     let mut written = 0;
     let mut number = 0u64;
     while number < u64::MAX {
         number += 1;
         let due = place.at == place.filled;
-        written = flush_before(due, buffer, written, ROOM, b"drive: standard output");
-        place = next_line(chunk, bytes, place, b"drive: standard input");
+        written = write_on(&buffer, written, due);
+        place = read_on(&mut chunk, &mut bytes, place);
         // The end: nothing was left to read, so all that waited has been written out.
         if place.ended & (place.length == 0) {
             return;
         }
-        let command = command_of(bytes, place.length);
-        let record = state.record;
-        let lent = state.lent;
-        state = perform(command, record, lent, left, right, t, l, scratch, pairs);
-        written = put_told(buffer, written, state, number);
+        let command = command_of(&bytes, place.length);
+        let after = perform(
+            command,
+            record,
+            lent,
+            &mut left,
+            &mut right,
+            &mut t,
+            &mut l,
+            &mut scratch,
+            &mut pairs,
+        );
+        record = after.record;
+        lent = lent_after(command, lent);
+        let told = after.told;
+        written = put_told(&mut buffer, written, told, record, number);
     }
-}
-
-// Runs the script on standard input.
-pub(crate) fn play() {
-    run(
-        &mut [0u8; SIDE],
-        &mut [0u8; SIDE],
-        &mut [0u64; HELD_TABLE],
-        &mut [0u64; HELD_LOG],
-        &mut [0u8; SIDE],
-        &mut [0u64; HELD_TABLE],
-        &mut [0u8; LINE],
-        &mut [0u8; CHUNK],
-        &mut [0u8; CHUNK],
-    );
 }

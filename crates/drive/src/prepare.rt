@@ -1,12 +1,8 @@
 // The commands that set what is held and lent: what is lent from here on, one element, a payload in the exchange area, the record.
-use super::held::Lent;
 use super::held::SECOND;
 use super::held::SIDE;
 use super::held::THIRD;
 use super::held::part;
-use super::telling::After;
-use super::telling::Told;
-use super::telling::leaving;
 use holdings::Area;
 use holdings::HELD_AREA;
 use holdings::HELD_LOG;
@@ -78,13 +74,10 @@ pub(crate) fn write(
     }
 }
 
-// What a command makes of the record, and of how much is lent.
-pub(crate) fn settle(which: Preparing, record: Record, lent: Lent) -> After {
+// The record that a command leaves: the one that it gives, if it gives one.
+pub(crate) fn settle(which: Preparing, record: Record) -> Record {
     match which {
-        Preparing::Lend { area, count } => {
-            leaving(record, lent.lending(area, count), Told::Nothing)
-        }
-        Preparing::Record(given) => leaving(given, lent, Told::Nothing),
-        _ => leaving(record, lent, Told::Nothing),
+        Preparing::Record(given) => given,
+        _ => record,
     }
 }
