@@ -8,7 +8,7 @@ use native.Mathlib.Numerals.{add-one}
 use native.Mathlib.Omega.{arith}
 use lib.ListN.{length, take, drop, set, take-append-drop}
 use lib.Seq.{take-all, take-suc-set, drop-cons, drop-set-lt, append-snoc}
-use Rattle.text.proofs.Lists.{drop-past}
+use Rattle.numbers.proofs.Lists.{drop-past}
 use Rattle.holdings.specs.Seeds.{seededOver}
 
 -- a list of which the first i elements are seeded, once all are

@@ -10,7 +10,7 @@ use lib.Dec.{eqb}
 use lib.ListN.{length, drop, getD}
 use lib.Seq.{drop-cons}
 use Rattle.choice.proofs.Picks.{yes, no}
-use Rattle.text.proofs.Lists.{drop-past}
+use Rattle.numbers.proofs.Lists.{drop-past}
 use Rattle.text.specs.Writing.{newlineByte}
 use Rattle.templates.specs.declared.matching.Taken.{Taken}
 use Rattle.templates.specs.declared.matching.Taken.the-variants.{Number, Same, Wrong}

@@ -9,10 +9,10 @@ use lib.ListN.{length, getD, drop, set, replicate}
 use Rattle.choice.specs.Pick.{pick, _and_}
 use Rattle.tickets.specs.Live.{rollback}
 use Rattle.rows.specs.Rows.{top8, top32, fields}
-use Rattle.text.specs.Reading.{numberAt}
+use Rattle.numbers.specs.Reading.{numberAt}
 use Rattle.text.specs.Writing.{newlineByte}
-use Rattle.text.specs.declared.reading.Read.{Read}
-use Rattle.text.specs.declared.reading.Read.the-variants.{Number as ReadNumber, Wrong as ReadWrong}
+use Rattle.numbers.specs.declared.Read.{Read}
+use Rattle.numbers.specs.declared.Read.the-variants.{Number as ReadNumber, Wrong as ReadWrong}
 use Rattle.holdings.specs.Held.{heldOf}
 use Rattle.holdings.specs.declared.places.Area.the-variants.{Accepted, Table}
 use Rattle.templates.specs.declared.matching.Taken.{Taken}

@@ -4,13 +4,13 @@
 use super::NUMBERS;
 use holdings::HELD_AREA;
 use holdings::HELD_TABLE;
+use numbers::Read;
+use numbers::number;
 use rows::TOP8;
 use rows::TOP32;
-use text::Read;
-use text::number;
 use tickets::Live;
 ghost use mathlib.Core.Path.{_≡_};
-ghost use Rattle.text.specs.Reading.{numberAt};
+ghost use Rattle.numbers.specs.Reading.{numberAt};
 ghost use Rattle.templates.specs.Templates.{mostAt, letters, placeIn, letterOf, takenOf, sameAs, takenAt};
 ghost use Rattle.templates.specs.Templates.{soFar, kept, fitted, fitsAt};
 
