@@ -14,7 +14,7 @@ use Rattle.text.specs.Writing.{newlineByte}
 use Rattle.numbers.specs.declared.Read.{Read}
 use Rattle.numbers.specs.declared.Read.the-variants.{Number as ReadNumber, Wrong as ReadWrong}
 use Rattle.holdings.specs.Held.{heldOf}
-use Rattle.holdings.specs.declared.places.Area.the-variants.{Accepted, Table}
+use Rattle.holdings.specs.declared.Area.the-variants.{Accepted, Table}
 use Rattle.templates.specs.declared.matching.Taken.{Taken}
 use Rattle.templates.specs.declared.matching.Taken.the-variants.{Number, Same, Wrong}
 use Rattle.templates.specs.declared.matching.Fitted.{Fitted}

@@ -1,9 +1,9 @@
--- `holdings::seeds::payload` meets its contract: the front of what is filled. Assumes nothing.
+-- `seeds::payload` meets its contract: the front of what is filled. Assumes nothing.
 use mathlib.Core.Path.{ap, _∙_}
 use lib.ListN.{take}
 use borrow.Author.Needs.{needs}
-use Rattle.holdings.proofs.seeds.payload.Statement.{statement}
-use Rattle.holdings.proofs.seeds.payload.Tie as tie
+use Rattle.seeds.proofs.payload.Statement.{statement}
+use Rattle.seeds.proofs.payload.Tie as tie
 
 returns : tie.Need-returns
 returns c =

@@ -1,9 +1,9 @@
--- `holdings::seeds::words` meets its contract: the front of what is filled. Assumes nothing.
+-- `seeds::words` meets its contract: the front of what is filled. Assumes nothing.
 use mathlib.Core.Path.{ap, _∙_}
 use lib.ListN.{take}
 use borrow.Author.Needs.{needs}
-use Rattle.holdings.proofs.seeds.words.Statement.{statement}
-use Rattle.holdings.proofs.seeds.words.Tie as tie
+use Rattle.seeds.proofs.words.Statement.{statement}
+use Rattle.seeds.proofs.words.Tie as tie
 
 returns : tie.Need-returns
 returns c =

@@ -1,4 +1,4 @@
--- `holdings::places::Area::at` meets its contract: a place that is none of the first seven is past them. Assumes nothing.
+-- `holdings::Area::at` meets its contract: a place that is none of the first seven is past them. Assumes nothing.
 use mathlib.Core.Path.{_≡_, refl, ap, _∙_}
 use mathlib.Core.List.{[], _∷_}
 use mathlib.Core.Logic.{_≢_}
@@ -7,9 +7,9 @@ use native.Mathlib.Omega.{arith}
 use lib.ListN.{getD}
 use lib.Seq.{getD-drop}
 use Rattle.holdings.specs.Held.{areas, areaAt}
-use Rattle.holdings.specs.declared.places.Area.the-variants.{Status}
-use Rattle.holdings.proofs.places.Area.at.Statement.{statement}
-use Rattle.holdings.proofs.places.Area.at.Tie as tie
+use Rattle.holdings.specs.declared.Area.the-variants.{Status}
+use Rattle.holdings.proofs.Area.at.Statement.{statement}
+use Rattle.holdings.proofs.Area.at.Tie as tie
 
 up : (k n : ℕ) → k ≤ n → n ≢ k → k + 1 ≤ n
 up k n h e = omega arith

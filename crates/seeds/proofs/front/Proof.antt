@@ -1,10 +1,10 @@
--- `holdings::seeds::front` meets its contract. Assumes nothing.
+-- `seeds::front` meets its contract. Assumes nothing.
 use mathlib.Core.Path.{refl, sym}
 use native.Mathlib.Nat.{le-of-lt}
 use lib.Seq.{take-all, length-take-le}
 use borrow.Author.Needs.{needs}
-use Rattle.holdings.proofs.seeds.front.Statement.{statement}
-use Rattle.holdings.proofs.seeds.front.Tie as tie
+use Rattle.seeds.proofs.front.Statement.{statement}
+use Rattle.seeds.proofs.front.Tie as tie
 
 slice-aggregate-result : tie.Need-slice-aggregate-result
 slice-aggregate-result c = sym (length-take-le _ _ (le-of-lt (c .before .if1 .taken)))

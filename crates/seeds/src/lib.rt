@@ -1,8 +1,9 @@
-// The payloads and the words that a script names by a count and a seed.
+// The payloads and the words that a script names by a count and a seed. No function asks anything of its caller: what has no room is
+// left out.
 ghost use mathlib.Core.Path.{_≡_};
 ghost use Prim.Native.Nat.{_<_, _+_, _%_};
 ghost use lib.ListN.{take};
-ghost use Rattle.holdings.specs.Seeds.{payloadOver, wordsOver};
+ghost use Rattle.seeds.specs.Seeds.{payloadOver, wordsOver};
 
 pub struct Seeded {
     pub count: usize,

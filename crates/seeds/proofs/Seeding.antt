@@ -9,7 +9,7 @@ use native.Mathlib.Omega.{arith}
 use lib.ListN.{length, take, drop, set, take-append-drop}
 use lib.Seq.{take-all, take-suc-set, drop-cons, drop-set-lt, append-snoc}
 use Rattle.numbers.proofs.Lists.{drop-past}
-use Rattle.holdings.specs.Seeds.{seededOver}
+use Rattle.seeds.specs.Seeds.{seededOver}
 
 -- a list of which the first i elements are seeded, once all are
 abbrev pub seededFrom : ℕ → ℕ → ℕ → ℕ → List ℕ → List ℕ

@@ -1,13 +1,13 @@
--- `holdings::seeds::fill_words` meets its contract: to fill what is left stays what it was at the start. Assumes nothing.
+-- `seeds::fill_words` meets its contract: to fill what is left stays what it was at the start. Assumes nothing.
 use mathlib.Core.Path.{_≡_, sym, _∙_}
 use Prim.Native.Nat.{_-_, _^_}
 use native.Mathlib.Omega.{arith}
 use lib.ListN.{length}
 use borrow.Author.Needs.{needs}
-use Rattle.holdings.specs.Seeds.{wordsOver}
-use Rattle.holdings.proofs.Seeding.{seededFrom, seed-start, seed-next, seed-done, seed-end}
-use Rattle.holdings.proofs.seeds.fill_words.Statement.{statement}
-use Rattle.holdings.proofs.seeds.fill_words.Tie as tie
+use Rattle.seeds.specs.Seeds.{wordsOver}
+use Rattle.seeds.proofs.Seeding.{seededFrom, seed-start, seed-next, seed-done, seed-end}
+use Rattle.seeds.proofs.fill_words.Statement.{statement}
+use Rattle.seeds.proofs.fill_words.Tie as tie
 
 abbrev Inv-loop : tie.InvT-loop
 Inv-loop words₀ named i₀ words i =
