@@ -10,16 +10,16 @@ use super::held::within;
 use holdings::HELD_AREA;
 use holdings::HELD_LOG;
 use holdings::HELD_TABLE;
-use holdings::Seeded;
-use holdings::fill;
-use holdings::payload;
-use holdings::words;
 use record::Opening;
 use record::Record;
 use record::Reporting;
 use record::Stepped;
 use script::Bringing;
 use script::Payloads;
+use seeds::Seeded;
+use seeds::fill;
+use seeds::payload;
+use seeds::words;
 
 // Both payloads of a line, each in its half of the scratch.
 fn make(named: Payloads, scratch: &mut [u8]) {

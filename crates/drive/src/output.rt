@@ -1,11 +1,11 @@
 // The lines that answer a command, put into a buffer of which the first `written` bytes wait. It answers how many wait now.
 use super::play::CHUNK;
 use super::telling::Told;
-use lines::put_digests;
-use lines::put_record;
-use lines::put_reply;
+use lines::put_line;
+use printing::put_digests;
+use printing::put_record;
+use printing::put_reply;
 use record::Record;
-use text::put_line;
 
 // More than the longest answer has, which is that of `show`.
 pub(crate) const ROOM: usize = 1000;

@@ -7,10 +7,10 @@ use holdings::Area;
 use holdings::HELD_AREA;
 use holdings::HELD_LOG;
 use holdings::HELD_TABLE;
-use holdings::Seeded;
-use holdings::fill;
 use record::Record;
 use script::Preparing;
+use seeds::Seeded;
+use seeds::fill;
 
 // A value that is past a byte, which no command has, is left out.
 fn put_byte(bytes: &mut [u8], from: usize, at: usize, value: u64) {

@@ -3,8 +3,8 @@ use Prim.Native.Nat.{ℕ}
 use mathlib.Core.List.{List, [], _∷_}
 use lib.ListN.{getD}
 use Rattle.rows.specs.Rows.{top8}
-use Rattle.holdings.specs.declared.places.Area.{Area}
-use Rattle.holdings.specs.declared.places.Area.the-variants.{Accepted, Candidate, Recovery, Exchange, Table, Log, Groups, Status}
+use Rattle.holdings.specs.declared.Area.{Area}
+use Rattle.holdings.specs.declared.Area.the-variants.{Accepted, Candidate, Recovery, Exchange, Table, Log, Groups, Status}
 
 -- "a, c, r, x, t, l, g or s"
 abbrev pub areas : List Area

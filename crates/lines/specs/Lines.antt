@@ -1,46 +1,25 @@
--- The texts of the lines that programs write. The words and the order of the numbers are those of the driver's page: "each writes its
--- answer's number, then its values"; "`record` with its fifteen numbers as above, `bytes` with the digests of a, c, r, x, `table`
--- with the digest of t, `log` with the digest of l, `status` with the digests of g and s". Assumes nothing.
+-- The text of a line, a word and numbers in a row: the driver's page, "parted by single spaces". Assumes nothing.
 use Prim.Native.Nat.{ℕ}
+use mathlib.Core.Bool.{Bool, true, not}
 use mathlib.Core.List.{List, [], _∷_, _++_}
-use lib.ListN.{take}
-use Rattle.text.specs.Writing.{lineText}
-use Rattle.record.specs.declared.Record.{Record}
-use Rattle.replies.specs.declared.Reply.{Reply}
-use Rattle.rows.specs.Rows.{rowOf}
-use Rattle.lines.specs.declared.Digests.{Digests}
+use lib.Dec.{eqb}
+use lib.ListN.{length}
+use Rattle.choice.specs.Pick.{pick}
+use Rattle.text.specs.Writing.{newlineByte, decimalOf}
 
--- the words that lines begin with, by their letters in ASCII: r e c o r d
-abbrev pub recordWord : List ℕ
-recordWord = 114 ∷ 101 ∷ 99 ∷ 111 ∷ 114 ∷ 100 ∷ []
+-- the byte of a space in ASCII
+abbrev pub spaceByte : ℕ
+spaceByte = 32
 
--- b y t e s
-abbrev pub bytesWord : List ℕ
-bytesWord = 98 ∷ 121 ∷ 116 ∷ 101 ∷ 115 ∷ []
+-- a space, where one is due
+unfoldable pub spaceIf : Bool → List ℕ
+spaceIf due = pick due (spaceByte ∷ []) []
 
--- t a b l e
-abbrev pub tableWord : List ℕ
-tableWord = 116 ∷ 97 ∷ 98 ∷ 108 ∷ 101 ∷ []
+-- numbers in decimal: a space before each but the first, and before the first where one is due
+unfoldable pub numbersText : Bool → List ℕ → List ℕ
+numbersText due [] = []
+numbersText due (n ∷ rest) = spaceIf due ++ (decimalOf n ++ numbersText true rest)
 
--- l o g
-abbrev pub logWord : List ℕ
-logWord = 108 ∷ 111 ∷ 103 ∷ []
-
--- s t a t u s
-abbrev pub statusWord : List ℕ
-statusWord = 115 ∷ 116 ∷ 97 ∷ 116 ∷ 117 ∷ 115 ∷ []
-
--- an answer has no word before its number; as many numbers are told as its count says, and never more than four
-unfoldable pub replyText : Reply → List ℕ
-replyText r = lineText [] (take (r .count) (r .number ∷ r .first ∷ r .second ∷ r .third ∷ []))
-
-unfoldable pub recordText : Record → List ℕ
-recordText r = lineText recordWord (rowOf r)
-
--- the four lines, one after the other
-unfoldable pub digestsText : Digests → List ℕ
-digestsText d =
-    lineText bytesWord (d .accepted ∷ d .candidate ∷ d .recovery ∷ d .exchange ∷ [])
-    ++ (lineText tableWord (d .table ∷ [])
-    ++ (lineText logWord (d .log ∷ [])
-    ++ lineText statusWord (d .groups ∷ d .status ∷ [])))
+-- a line: the word, the numbers, with a space between any two of them, and a newline; an empty word is none
+unfoldable pub lineText : List ℕ → List ℕ → List ℕ
+lineText word numbers = word ++ (numbersText (not (eqb (length word) 0)) numbers ++ (newlineByte ∷ []))

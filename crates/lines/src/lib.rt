@@ -1,63 +1,42 @@
-// The lines that programs write: an answer, a record, and the digests of what is held. Nothing here reads or writes a file: a line is
-// put into a buffer of which the first `written` bytes are in use, and each function that puts one answers how many are in use then.
-// No function asks anything of its caller: what has no room is left out.
-mod digesting;
-
-pub use digesting::digest;
-pub use digesting::digest_words;
-use record::Record;
-use replies::Reply;
-use text::put_line;
+// A line: a word and numbers in a row, put into a buffer of which the first `written` bytes are in use. Every function answers how many
+// are in use then; what has no room is left out. Nothing here writes a file, and no function asks anything of its caller.
+use text::put_byte;
+use text::put_decimal;
+use text::put_text;
 ghost use mathlib.Core.Path.{_≡_};
-ghost use lib.ListN.{take};
 ghost use Rattle.text.specs.Writing.{page, putAll};
-ghost use Rattle.lines.specs.Lines.{replyText, recordText, digestsText};
+ghost use Rattle.lines.specs.Lines.{spaceIf, numbersText, lineText};
 
-// The digests of all that is held.
-pub struct Digests {
-    pub accepted: u64,
-    pub candidate: u64,
-    pub recovery: u64,
-    pub exchange: u64,
-    pub table: u64,
-    pub log: u64,
-    pub groups: u64,
-    pub status: u64,
-}
-
-// The first n numbers, or all where there are fewer.
-fn front(numbers: &[u64], n: usize) -> &[u64]
-    ensures { λ r. ⌜ now r ≡ take n (now (numbers .entry)) ⌝ }
+fn put_space(buffer: &mut [u8], written: usize, due: bool) -> usize
+    ensures { λ n. ⌜ page (now (buffer .exit)) n ≡ putAll (page (now (buffer .entry)) written) (spaceIf due) ⌝ }
 {
-    if n < numbers.len() {
-        return &numbers[..n];
+    if due {
+        return put_byte(buffer, written, b' ');
     }
-    numbers
+    written
 }
 
-// An answer: its number and its values.
-pub fn put_reply(buffer: &mut [u8], written: usize, reply: Reply) -> usize
-    ensures { λ n. ⌜ page (now (buffer .exit)) n ≡ putAll (page (now (buffer .entry)) written) (replyText reply) ⌝ }
+// Numbers with a space between any two of them, and before the first where one is due.
+fn put_numbers(buffer: &mut [u8], written: usize, first: bool, numbers: &[u64]) -> usize
+    ensures { λ n. ⌜ page (now (buffer .exit)) n ≡ putAll (page (now (buffer .entry)) written) (numbersText first (now (numbers .entry))) ⌝ }
 {
-    let numbers = [reply.number, reply.first, reply.second, reply.third];
-    put_line(buffer, written, b"", front(&numbers, reply.count))
+    let mut at = written;
+    let mut due = first;
+    let mut i = 0;
+    while i < numbers.len() {
+        at = put_space(buffer, at, due);
+        at = put_decimal(buffer, at, numbers[i]);
+        due = true;
+        i += 1;
+    }
+    at
 }
 
-// The word `record` and the record's numbers.
-pub fn put_record(buffer: &mut [u8], written: usize, record: Record) -> usize
-    ensures { λ n. ⌜ page (now (buffer .exit)) n ≡ putAll (page (now (buffer .entry)) written) (recordText «record») ⌝ }
+// A word, which may be empty, then numbers, with a space between any two of them, and a newline.
+pub fn put_line(buffer: &mut [u8], written: usize, word: &[u8], numbers: &[u64]) -> usize
+    ensures { λ n. ⌜ page (now (buffer .exit)) n ≡ putAll (page (now (buffer .entry)) written) (lineText (now (word .entry)) (now (numbers .entry))) ⌝ }
 {
-    let numbers = rows::numbers(record);
-    put_line(buffer, written, b"record", &numbers)
-}
-
-// Four lines: the areas, the table, the log, and the status part's bytes.
-pub fn put_digests(buffer: &mut [u8], written: usize, d: Digests) -> usize
-    ensures { λ n. ⌜ page (now (buffer .exit)) n ≡ putAll (page (now (buffer .entry)) written) (digestsText d) ⌝ }
-{
-    let bytes = [d.accepted, d.candidate, d.recovery, d.exchange];
-    let at = put_line(buffer, written, b"bytes", &bytes);
-    let at = put_line(buffer, at, b"table", &[d.table]);
-    let at = put_line(buffer, at, b"log", &[d.log]);
-    put_line(buffer, at, b"status", &[d.groups, d.status])
+    let named = put_text(buffer, written, word);
+    let counted = put_numbers(buffer, named, word.len() != 0, numbers);
+    put_byte(buffer, counted, b'\n')
 }

@@ -1,9 +1,9 @@
 // The commands of a script, with what each is given.
 use holdings::Area;
-use holdings::Seeded;
 use record::Opening;
 use record::Record;
 use record::Reporting;
+use seeds::Seeded;
 use step_stamps::SaveStamp;
 
 pub enum Command {

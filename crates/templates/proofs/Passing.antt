@@ -12,9 +12,9 @@ use lib.Seq.{drop-cons}
 use Rattle.choice.specs.Pick.{pick}
 use Rattle.choice.proofs.Picks.{yes, no}
 use Rattle.choice.proofs.Tests.{test}
-use Rattle.text.proofs.Lists.{drop-past}
+use Rattle.numbers.proofs.Lists.{drop-past}
 use Rattle.text.specs.Writing.{newlineByte}
-use Rattle.templates.specs.Templates.{fitsAt}
+use Rattle.matching.specs.Templates.{fitsAt}
 use Rattle.templates.specs.Finding.{afterLine, found, none, firstFrom}
 
 module _ (templates : List ℕ) (i : ℕ) where

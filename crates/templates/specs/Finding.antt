@@ -7,8 +7,8 @@ use lib.ListN.{replicate}
 use Rattle.choice.specs.Pick.{pick}
 use Rattle.rows.specs.Rows.{fields}
 use Rattle.text.specs.Writing.{newlineByte}
-use Rattle.templates.specs.Templates.{blank, fitsFrom}
-use Rattle.templates.specs.declared.finding.Found.{Found}
+use Rattle.matching.specs.Templates.{blank, fitsFrom}
+use Rattle.templates.specs.declared.Found.{Found}
 
 -- what is left of the templates after the next newline
 unfoldable pub afterLine : List ℕ → List ℕ

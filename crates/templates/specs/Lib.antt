@@ -1,2 +1,1 @@
-pub mod Templates
 pub mod Finding

@@ -9,7 +9,7 @@ use borrow.Author.Tests.{lt-ltb, le-ltb, leb-true, leb-false}
 use Rattle.choice.proofs.Picks.{yes, no}
 use Rattle.choice.proofs.Tests.{test}
 use Rattle.io.specs.Digits.{glyph, digits, Fewest}
-use Rattle.text.specs.Reading.{zeroByte}
+use Rattle.numbers.specs.Reading.{zeroByte}
 use Rattle.text.specs.Writing.{decimalWithin}
 
 glyph-digit : (d : ℕ) → d < 10 → glyph d ≡ zeroByte + d

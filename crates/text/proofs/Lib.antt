@@ -1,4 +1,2 @@
-pub mod Lists
-pub mod Turns
 pub mod Putting
 pub mod Decimal

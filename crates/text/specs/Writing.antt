@@ -1,12 +1,10 @@
--- What is written to a buffer of which the first bytes are in use, and the text of a line: the driver's page, "parted by single spaces".
--- Assumes nothing.
+-- What is written to a buffer of which the first bytes are in use: bytes, texts, and numbers in decimal. Assumes nothing.
 use Prim.Native.Nat.{ℕ, zero, suc, _+_, _/_, _%_}
-use mathlib.Core.Bool.{Bool, true, not}
 use mathlib.Core.List.{List, [], _∷_, _++_}
-use lib.Dec.{eqb, ltb}
+use lib.Dec.{ltb}
 use lib.ListN.{length, set}
 use Rattle.choice.specs.Pick.{pick}
-use Rattle.text.specs.Reading.{zeroByte}
+use Rattle.numbers.specs.Reading.{zeroByte}
 
 -- a buffer's bytes, and how many of them are in use
 pub record Page : Type 0 where
@@ -25,10 +23,7 @@ unfoldable pub putAll : Page → List ℕ → Page
 putAll p [] = p
 putAll p (byte ∷ rest) = putAll (putByte p byte) rest
 
--- the bytes of a space and a newline in ASCII
-abbrev pub spaceByte : ℕ
-spaceByte = 32
-
+-- the byte of a newline in ASCII
 abbrev pub newlineByte : ℕ
 newlineByte = 10
 
@@ -40,16 +35,3 @@ decimalWithin (suc k) n = pick (ltb n 10) ((zeroByte + n) ∷ []) (decimalWithin
 -- the same for a number below 2^64, which has at most 20 digits
 abbrev pub decimalOf : ℕ → List ℕ
 decimalOf n = decimalWithin 20 n
-
--- a space, where one is due
-unfoldable pub spaceIf : Bool → List ℕ
-spaceIf due = pick due (spaceByte ∷ []) []
-
--- numbers in decimal: a space before each but the first, and before the first where one is due
-unfoldable pub numbersText : Bool → List ℕ → List ℕ
-numbersText due [] = []
-numbersText due (n ∷ rest) = spaceIf due ++ (decimalOf n ++ numbersText true rest)
-
--- a line: the word, the numbers, with a space between any two of them, and a newline; an empty word is none
-unfoldable pub lineText : List ℕ → List ℕ → List ℕ
-lineText word numbers = word ++ (numbersText (not (eqb (length word) 0)) numbers ++ (newlineByte ∷ []))

@@ -1,11 +1,14 @@
 -- `rows::record_of` meets its contract: a number whose test passed fits its field. Assumes nothing.
-use mathlib.Core.Path.{refl}
+use mathlib.Core.Path.{refl, ap}
 use borrow.Author.Needs.{needs}
 use borrow.Author.Tests.{eq-eqb}
 use native.Mathlib.Omega.{arith}
 use Rattle.choice.proofs.Picks.{yes, no, told}
 use Rattle.choice.proofs.Tests.{join, no-right}
-use Rattle.rows.specs.Rows.{recordOf}
+use Rattle.record.specs.Fields.{withTicket}
+use Rattle.tickets.specs.declared.Live.{Live}
+use Rattle.rows.specs.declared.Row.the-variants.{Fits}
+use Rattle.rows.specs.Rows.{at, made, recordOf}
 use Rattle.rows.proofs.Ranges.{ranged}
 use Rattle.rows.proofs.record_of.Statement.{statement}
 use Rattle.rows.proofs.record_of.Tie as tie
@@ -36,7 +39,7 @@ unfolding recordOf
 returns c =
     let start = c .before .before .before in
     yes _ (join (eq-eqb _ _ (start .good .0 .1 .0 .1)) (told (c .before .before .in-ranges .ensures) (c .before .if1 .taken)))
-    (simp (c .live-of .ensures))
+    (ap (λ (live : Live). Fits (withTicket (at (start .args .t1) 1) live (made (start .args .t1)))) (c .live-of .ensures))
 
 returns-2 : tie.Need-returns-2
 unfolding recordOf

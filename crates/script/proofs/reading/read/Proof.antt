@@ -4,7 +4,7 @@ use borrow.Author.Needs.{needs}
 use borrow.Author.Tests.{eq-eqb, ne-eqb, lt-ltb, le-ltb, not-true, not-false}
 use Rattle.choice.proofs.Picks.{yes, no}
 use Rattle.script.specs.Reading.{bytesOf, linesOf, templates, readAs}
-use Rattle.templates.specs.declared.finding.Found.{Found}
+use Rattle.templates.specs.declared.Found.{Found}
 use Rattle.script.proofs.reading.read.Statement.{statement}
 use Rattle.script.proofs.reading.read.Tie as tie
 
