@@ -14,7 +14,7 @@ pub fn payload(step: Stepped, area: &mut [u8], payload: &[u8]) -> Stepped
         ≡ moving (tells step) (now (area .entry) ∷ []) (copied (now (payload .entry)) (now (area .entry)) ∷ []) ⌝ }
 {
     if !step.is_refused() {
-        areas::copy_bytes(area, payload);
+        copies::copy_bytes(area, payload);
     }
     step
 }
@@ -60,8 +60,8 @@ pub fn replace(step: Stepped, accepted: &mut [u8], recovery: &[u8], exchange: &m
         ∷ copied (now (accepted .entry)) (now (exchange .entry)) ∷ []) ⌝ }
 {
     if !step.is_refused() {
-        areas::copy_bytes(exchange, accepted);
-        areas::copy_bytes(accepted, recovery);
+        copies::copy_bytes(exchange, accepted);
+        copies::copy_bytes(accepted, recovery);
     }
     step
 }
