@@ -17,10 +17,6 @@ sized area = eqb (length area) areaSize
 unfoldable pub long : ℕ → Bool
 long n = ltb areaSize n
 
--- how many bytes are copied at a time; nothing else hangs on it
-abbrev pub blockSize : ℕ
-blockSize = 128
-
 -- "Copying writes only the payload's bytes or the pairs' words"; what does not fit is not copied
 unfoldable pub copied : List ℕ → List ℕ → List ℕ
 copied payload area = pick (ltb (length area) (length payload)) area (payload ++ drop (length payload) area)

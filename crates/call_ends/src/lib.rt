@@ -17,7 +17,7 @@ pub fn commit(r: Record, accepted: &mut [u8], candidate: &mut [u8]) -> Stepped
 {
     let found = Findings::of(areas::is_sized(accepted.len()) & areas::is_sized(candidate.len()));
     let stepped = step_ends::commit(r, found);
-    moves::exchange(stepped, accepted, candidate)
+    exchanges::exchange(stepped, accepted, candidate)
 }
 
 // The snapshot in the exchange area replaces the accepted payload; no revision is made.
@@ -27,5 +27,5 @@ pub fn refresh(r: Record, accepted: &mut [u8], exchange: &mut [u8], length: usiz
 {
     let found = Findings::of(areas::is_sized(accepted.len()) & areas::is_sized(exchange.len()));
     let stepped = step_ends::refresh(r, found, length);
-    moves::exchange(stepped, accepted, exchange)
+    exchanges::exchange(stepped, accepted, exchange)
 }

@@ -16,7 +16,7 @@ pub fn recover(r: Record, accepted: &mut [u8], exchange: &mut [u8], length: usiz
 {
     let found = Findings::of(areas::is_sized(accepted.len()) & areas::is_sized(exchange.len()));
     let stepped = step_ends::recover(r, found, length);
-    moves::exchange(stepped, accepted, exchange)
+    exchanges::exchange(stepped, accepted, exchange)
 }
 
 // The retained recovery payload becomes the accepted one, and stays; what was accepted is handed back in the exchange area.
@@ -35,5 +35,5 @@ pub fn recover_retained(
             & areas::is_sized(exchange.len()),
     );
     let stepped = step_ends::recover_retained(r, found);
-    moves::replace(stepped, accepted, recovery, exchange)
+    exchanges::replace(stepped, accepted, recovery, exchange)
 }

@@ -7,7 +7,7 @@ use super::held::THIRD;
 use super::held::part;
 use super::held::part_of_words;
 use super::held::within;
-use areas::copy_bytes;
+use copies::copy_bytes;
 use holdings::HELD_LOG;
 use record::Record;
 use record::Stepped;

@@ -1,5 +1,5 @@
-// Copying and exchanging lent bytes, for callers in C or Rust: what `areas` has, under names of C's. A slice crosses as the
-// address of its first byte and its length.
+// Copying and exchanging lent bytes, for callers in C or Rust: what `copies` and `areas` have, under names of C's. A slice crosses as
+// the address of its first byte and its length.
 ghost use mathlib.Core.Path.{_≡_};
 ghost use mathlib.Core.List.{_∷_, []};
 ghost use Rattle.areas.specs.Areas.{copied, exchanged};
@@ -9,7 +9,7 @@ ghost use Rattle.areas.specs.Areas.{copied, exchanged};
 pub extern "C" fn edge_copy(dst: &mut [u8], src: &[u8])
     ensures { λ _. ⌜ now (dst .exit) ≡ copied (now (src .entry)) (now (dst .entry)) ⌝ }
 {
-    areas::copy_bytes(dst, src);
+    copies::copy_bytes(dst, src);
 }
 
 // Two areas of one size change places.

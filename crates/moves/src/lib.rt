@@ -1,9 +1,9 @@
-// What a call that is not refused does to what it is lent: each function is handed what the call's step told, moves bytes or words
-// unless that is a refusal, and hands it back.
+// What a call that is not refused puts into what it is lent: a payload, pairs, or the payload of one action. Each function is handed what
+// the call's step told, writes bytes or words unless that is a refusal, and hands it back.
 use record::Stepped;
 ghost use mathlib.Core.Path.{_≡_};
 ghost use mathlib.Core.List.{_∷_, []};
-ghost use Rattle.areas.specs.Areas.{copied, exchanged};
+ghost use Rattle.areas.specs.Areas.{copied};
 ghost use Rattle.batch.specs.Batch.{pairsIn, stored};
 ghost use Rattle.record.specs.Answers.{tells};
 ghost use Rattle.record.specs.Leaves.{leaves, moving};
@@ -14,7 +14,7 @@ pub fn payload(step: Stepped, area: &mut [u8], payload: &[u8]) -> Stepped
         ≡ moving (tells step) (now (area .entry) ∷ []) (copied (now (payload .entry)) (now (area .entry)) ∷ []) ⌝ }
 {
     if !step.is_refused() {
-        areas::copy_bytes(area, payload);
+        copies::copy_bytes(area, payload);
     }
     step
 }
@@ -37,31 +37,6 @@ pub fn store(step: Stepped, table: &mut [u64], action: u32, payload: u64) -> Ste
 {
     if !step.is_refused() {
         batch::store(table, action, payload);
-    }
-    step
-}
-
-// Two areas change places.
-pub fn exchange(step: Stepped, a: &mut [u8], b: &mut [u8]) -> Stepped
-    ensures { λ s. ⌜ leaves (tells s) (now (a .exit) ∷ now (b .exit) ∷ [])
-        ≡ moving (tells step) (now (a .entry) ∷ now (b .entry) ∷ []) (exchanged (now (a .entry)) (now (b .entry))) ⌝ }
-{
-    if !step.is_refused() {
-        areas::exchange(a, b);
-    }
-    step
-}
-
-// The accepted area is copied into the exchange area, and then the recovery area into the accepted one.
-pub fn replace(step: Stepped, accepted: &mut [u8], recovery: &[u8], exchange: &mut [u8]) -> Stepped
-    ensures { λ s. ⌜ leaves (tells s) (now (accepted .exit) ∷ now (recovery .exit) ∷ now (exchange .exit) ∷ [])
-        ≡ moving (tells step) (now (accepted .entry) ∷ now (recovery .entry) ∷ now (exchange .entry) ∷ [])
-        (copied (now (recovery .entry)) (now (accepted .entry)) ∷ now (recovery .entry)
-        ∷ copied (now (accepted .entry)) (now (exchange .entry)) ∷ []) ⌝ }
-{
-    if !step.is_refused() {
-        areas::copy_bytes(exchange, accepted);
-        areas::copy_bytes(accepted, recovery);
     }
     step
 }

@@ -1,16 +1,17 @@
--- `areas::copy_bytes` meets its contract: after i bytes, by blocks and then one by one, the first i are copied. Assumes nothing.
+-- `copies::copy_bytes` meets its contract: after i bytes, by blocks and then one by one, the first i are copied. Assumes nothing.
 use mathlib.Core.Path.{refl}
 use Prim.Native.Nat.{_-_, _≤_}
 use native.Mathlib.Omega.{arith}
 use lib.ListN.{length}
 use borrow.Author.Tests.{lt-ltb, le-ltb}
 use Rattle.choice.proofs.Picks.{yes, no}
-use Rattle.areas.specs.Areas.{blockSize, copied}
+use Rattle.areas.specs.Areas.{copied}
+use Rattle.copies.specs.Copies.{blockSize}
 use Rattle.areas.proofs.Over.{Copying, copy-none, copy-more, copy-all}
-use Rattle.areas.proofs.Blocks.{block-more, copy-again, copy-then}
+use Rattle.copies.proofs.Blocks.{block-more, copy-again, copy-then}
 use borrow.Author.Needs.{needs}
-use Rattle.areas.proofs.copy_bytes.Statement.{statement}
-use Rattle.areas.proofs.copy_bytes.Tie as tie
+use Rattle.copies.proofs.copy_bytes.Statement.{statement}
+use Rattle.copies.proofs.copy_bytes.Tie as tie
 
 abbrev Inv-loop : tie.InvT-loop
 Inv-loop dst₀ src n i₀ dst i = Copying dst₀ src dst i

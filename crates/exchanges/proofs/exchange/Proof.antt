@@ -1,8 +1,8 @@
--- `moves::exchange` meets its contract. Assumes nothing.
+-- `exchanges::exchange` meets its contract. Assumes nothing.
 use borrow.Author.Needs.{needs}
 use Rattle.moves.proofs.Laws.{ends}
-use Rattle.moves.proofs.exchange.Statement.{statement}
-use Rattle.moves.proofs.exchange.Tie as tie
+use Rattle.exchanges.proofs.exchange.Statement.{statement}
+use Rattle.exchanges.proofs.exchange.Tie as tie
 
 pub exchange-spec : {M : Type 1} → statement M
 exchange-spec = tie.close (tie.spec (λ c. search needs) (λ c. search needs) (λ c. search needs) (λ c. search needs) (λ c. search ends) (λ c. search ends))

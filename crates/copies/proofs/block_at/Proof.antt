@@ -1,13 +1,13 @@
--- `areas::block_at` meets its contract: after j turns the first j bytes are read. Assumes nothing.
+-- `copies::block_at` meets its contract: after j turns the first j bytes are read. Assumes nothing.
 use mathlib.Core.Path.{_≡_, refl}
 use Prim.Native.Nat.{_-_, _≤_}
 use native.Mathlib.Omega.{arith}
 use lib.ListN.{length}
 use borrow.Author.Needs.{needs}
-use Rattle.areas.proofs.Blocks.{Reading, read-none, read-more, read-all}
-use Rattle.areas.proofs.block_at.Statement.{statement}
-use Rattle.areas.proofs.block_at.Tie as tie
-use Rattle.areas.specs.Areas.{blockSize}
+use Rattle.copies.proofs.Blocks.{Reading, read-none, read-more, read-all}
+use Rattle.copies.proofs.block_at.Statement.{statement}
+use Rattle.copies.proofs.block_at.Tie as tie
+use Rattle.copies.specs.Copies.{blockSize}
 
 abbrev Inv-loop : tie.InvT-loop
 Inv-loop src at block₀ j₀ block j = (j ≤ blockSize) × (length block₀ ≡ blockSize) × Reading src at block₀ block j

@@ -1,11 +1,11 @@
--- `areas::put_block` meets its contract: after j turns the first j bytes are put. Assumes nothing.
+-- `copies::put_block` meets its contract: after j turns the first j bytes are put. Assumes nothing.
 use Prim.Native.Nat.{_-_, _≤_}
 use native.Mathlib.Omega.{arith}
 use borrow.Author.Needs.{needs}
-use Rattle.areas.proofs.Blocks.{Putting, put-none, put-more, put-all}
-use Rattle.areas.proofs.put_block.Statement.{statement}
-use Rattle.areas.proofs.put_block.Tie as tie
-use Rattle.areas.specs.Areas.{blockSize}
+use Rattle.copies.proofs.Blocks.{Putting, put-none, put-more, put-all}
+use Rattle.copies.proofs.put_block.Statement.{statement}
+use Rattle.copies.proofs.put_block.Tie as tie
+use Rattle.copies.specs.Copies.{blockSize}
 
 abbrev Inv-loop : tie.InvT-loop
 Inv-loop dst₀ at block j₀ dst j = (j ≤ blockSize) × Putting dst₀ at block dst j
