@@ -27,7 +27,8 @@ use Rattle.record.specs.Given.{opening}
 use Rattle.step_asks.specs.Asks.{issue, started, turned}
 use Rattle.step_reports.specs.Done.{advanced, raised, lowered}
 use Rattle.step_reports.specs.Reports.{storing}
-use Rattle.step_ends.specs.Ending.{afterCommit, recoveredTo}
+use Rattle.step_ends.specs.Ending.{afterCommit}
+use Rattle.step_recoveries.specs.Recovering.{recoveredTo}
 use Rattle.calls.specs.Calls.{Call}
 use Rattle.calls.specs.Calls.Work.{structure, update, rollback}
 use Rattle.calls.specs.Calls.Report.{structured, updated, rolledBack}

@@ -1,10 +1,10 @@
--- `step_ends::recover_retained` meets its contract: the gate of both recoveries. Assumes nothing.
+-- `step_recoveries::recover_retained` meets its contract: the gate of both recoveries. Assumes nothing.
 use mathlib.Core.List.{[]}
 use Rattle.gates.proofs.Passing.{handed}
-use Rattle.step_ends.specs.Ending.{recoverBars, recoverRetainedOwn}
+use Rattle.step_recoveries.specs.Recovering.{recoverBars, recoverRetainedOwn}
 use borrow.Author.Needs.{needs}
-use Rattle.step_ends.proofs.recover_retained.Statement.{statement}
-use Rattle.step_ends.proofs.recover_retained.Tie as tie
+use Rattle.step_recoveries.proofs.recover_retained.Statement.{statement}
+use Rattle.step_recoveries.proofs.recover_retained.Tie as tie
 
 returns : tie.Need-returns
 unfolding recoverRetainedOwn

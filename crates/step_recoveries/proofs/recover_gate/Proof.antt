@@ -1,8 +1,8 @@
--- `step_ends::recover_gate` meets its contract. Assumes nothing.
+-- `step_recoveries::recover_gate` meets its contract. Assumes nothing.
 use Rattle.gates.proofs.Passing.{next}
 use borrow.Author.Needs.{needs}
-use Rattle.step_ends.proofs.recover_gate.Statement.{statement}
-use Rattle.step_ends.proofs.recover_gate.Tie as tie
+use Rattle.step_recoveries.proofs.recover_gate.Statement.{statement}
+use Rattle.step_recoveries.proofs.recover_gate.Tie as tie
 
 returns : tie.Need-returns
 returns c =

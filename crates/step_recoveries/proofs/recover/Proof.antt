@@ -1,11 +1,11 @@
--- `step_ends::recover` meets its contract: the gate of both recoveries, with the length behind it. Assumes nothing.
+-- `step_recoveries::recover` meets its contract: the gate of both recoveries, with the length behind it. Assumes nothing.
 use mathlib.Core.List.{[]}
 use Rattle.gates.specs.Gates.{longSnapshot}
 use Rattle.gates.proofs.Passing.{next-row, handed}
-use Rattle.step_ends.specs.Ending.{recoverBars, recoverOwn}
+use Rattle.step_recoveries.specs.Recovering.{recoverBars, recoverOwn}
 use borrow.Author.Needs.{needs}
-use Rattle.step_ends.proofs.recover.Statement.{statement}
-use Rattle.step_ends.proofs.recover.Tie as tie
+use Rattle.step_recoveries.proofs.recover.Statement.{statement}
+use Rattle.step_recoveries.proofs.recover.Tie as tie
 
 returns : tie.Need-returns
 unfolding recoverOwn

@@ -1,9 +1,9 @@
--- `step_ends::recovered` meets its contract. Assumes nothing.
+-- `step_recoveries::recovered` meets its contract. Assumes nothing.
 use mathlib.Core.Path.{refl}
 use Rattle.gates.proofs.Passing.{shut, opened}
 use borrow.Author.Needs.{needs}
-use Rattle.step_ends.proofs.recovered.Statement.{statement}
-use Rattle.step_ends.proofs.recovered.Tie as tie
+use Rattle.step_recoveries.proofs.recovered.Statement.{statement}
+use Rattle.step_recoveries.proofs.recovered.Tie as tie
 
 returns : tie.Need-returns
 returns c = shut _ refl (c .before .before .gate .given .1) (c .refuse .ensures)
