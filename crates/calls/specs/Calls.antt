@@ -6,7 +6,7 @@ use Rattle.record.specs.declared.Record.{Record}
 use Rattle.record.specs.declared.Opening.{Opening}
 use Rattle.record.specs.declared.Beginning.{Beginning}
 use Rattle.record.specs.declared.Outcome.{Outcome}
-use Rattle.step_begins.specs.Opening.{openStep}
+use Rattle.step_opens.specs.Opening.{openStep}
 use Rattle.step_begins.specs.Beginning.{beginStep, editStep}
 use Rattle.step_asks.specs.Asks.{askStructureStep, askUpdateStep, askRollbackStep}
 use Rattle.step_reports.specs.Reports.{reportStructureStep, reportUpdateStep, reportRollbackStep}

@@ -17,7 +17,7 @@ use Rattle.record.specs.Fields.{adopting}
 use Rattle.record.specs.declared.Record.{Record}
 use Rattle.wholeness.specs.Whole.{lengthsFit, countsFit, stagedFits, forwardFits, backFits, restoringFits, liveFits, whole, complete}
 use Rattle.gates.specs.Gates.{gateOf, gated}
-use Rattle.step_begins.specs.Opening.{opening, openStep}
+use Rattle.step_opens.specs.Opening.{opening, openStep}
 use Rattle.step_begins.specs.Beginning.{firstPhase, begun, beginOwn, editOwn}
 use Rattle.step_asks.specs.Asks.{askStructureOwn, askUpdateOwn, askRollbackOwn, turned}
 use Rattle.step_reports.specs.Done.{onward, advanced, structureDone, updateDone, least, leaving, rollbackDone}

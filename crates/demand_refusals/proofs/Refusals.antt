@@ -25,7 +25,7 @@ use Rattle.gates.specs.Gates.{gateOf, gated, Bar, barring, longSnapshot}
 use Rattle.gates.specs.declared.Gate.the-variants.{Open, Shut}
 use Rattle.wholeness.proofs.Facts.{parts, live-structure}
 use Rattle.gates.proofs.Passing.{Clear}
-use Rattle.step_begins.specs.Opening.{unopened, openBars, openStep}
+use Rattle.step_opens.specs.Opening.{unopened, openBars, openStep}
 use Rattle.step_begins.specs.Beginning.{beginBars, beginOwn, editBars, editOwn}
 use Rattle.step_asks.specs.Asks.{askStructureOwn, askUpdateOwn, askRollbackOwn}
 use Rattle.step_reports.specs.Done.{onward, advanced, structureDone, updateDone, rollbackDone}

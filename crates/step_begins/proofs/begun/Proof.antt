@@ -1,8 +1,8 @@
--- `step_begins::begins::begun` meets its contract. Assumes nothing.
+-- `step_begins::begun` meets its contract. Assumes nothing.
 use Rattle.step_begins.specs.Beginning.{begun}
 use borrow.Author.Needs.{needs}
-use Rattle.step_begins.proofs.begins.begun.Statement.{statement}
-use Rattle.step_begins.proofs.begins.begun.Tie as tie
+use Rattle.step_begins.proofs.begun.Statement.{statement}
+use Rattle.step_begins.proofs.begun.Tie as tie
 
 returns : tie.Need-returns
 unfolding begun

@@ -1,9 +1,9 @@
--- `step_begins::begins::first_phase` meets its contract. Assumes nothing.
+-- `step_begins::first_phase` meets its contract. Assumes nothing.
 use mathlib.Core.Path.{refl}
 use Rattle.choice.proofs.Picks.{yes, no}
 use Rattle.step_begins.specs.Beginning.{firstPhase}
-use Rattle.step_begins.proofs.begins.first_phase.Statement.{statement}
-use Rattle.step_begins.proofs.begins.first_phase.Tie as tie
+use Rattle.step_begins.proofs.first_phase.Statement.{statement}
+use Rattle.step_begins.proofs.first_phase.Tie as tie
 
 returns : tie.Need-returns
 unfolding firstPhase

@@ -1,4 +1,4 @@
--- `step_begins::opens::open` meets its contract. Assumes nothing.
+-- `step_opens::open` meets its contract. Assumes nothing.
 use mathlib.Core.List.{[]}
 use mathlib.Core.Path.{_∙_, ap}
 use Rattle.record.specs.Answers.{answer, refuse}
@@ -7,10 +7,10 @@ use Rattle.answers.specs.declared.Was.the-variants.{Nothing}
 use Rattle.gates.specs.Gates.{longSnapshot, gated}
 use Rattle.gates.specs.declared.Gate.the-variants.{Open}
 use Rattle.gates.proofs.Passing.{next-row, barred-out, let-in}
-use Rattle.step_begins.specs.Opening.{unopened, openBars, openStep}
+use Rattle.step_opens.specs.Opening.{unopened, openBars, openStep}
 use borrow.Author.Needs.{needs}
-use Rattle.step_begins.proofs.opens.open.Statement.{statement}
-use Rattle.step_begins.proofs.opens.open.Tie as tie
+use Rattle.step_opens.proofs.open.Statement.{statement}
+use Rattle.step_opens.proofs.open.Tie as tie
 
 returns : tie.Need-returns
 unfolding openStep gated

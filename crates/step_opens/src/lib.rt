@@ -1,4 +1,4 @@
-// Opening: the first record of a chain.
+// Opening, as a step on the record alone: the first record of a chain. Its payload is known by its length.
 use answers::Answer;
 use answers::Refusal;
 use answers::Was;
@@ -8,7 +8,7 @@ use record::Record;
 use record::Stepped;
 ghost use mathlib.Core.Path.{_≡_};
 ghost use Rattle.record.specs.Answers.{tells};
-ghost use Rattle.step_begins.specs.Opening.{unopened, openStep};
+ghost use Rattle.step_opens.specs.Opening.{unopened, openStep};
 
 // The record that a refused opening returns: that of an opening at 0, 0 with an empty payload.
 fn unopened() -> Record

@@ -1,4 +1,4 @@
--- `step_begins::begins::begin` meets its contract. Assumes nothing.
+-- `step_begins::begin` meets its contract. Assumes nothing.
 use Prim.Native.Nat.{ℕ}
 use mathlib.Core.Path.{sym, _∙_, ap}
 use Rattle.choice.proofs.Tests.{tests}
@@ -9,8 +9,8 @@ use Rattle.answers.specs.declared.Refusal.the-variants.{TooMany}
 use Rattle.gates.proofs.Passing.{barred-out, let-in, clear, fails}
 use Rattle.step_begins.specs.Beginning.{begun, beginBars, beginOwn}
 use borrow.Author.Needs.{needs}
-use Rattle.step_begins.proofs.begins.begin.Statement.{statement}
-use Rattle.step_begins.proofs.begins.begin.Tie as tie
+use Rattle.step_begins.proofs.begin.Statement.{statement}
+use Rattle.step_begins.proofs.begin.Tie as tie
 
 returns : tie.Need-returns
 unfolding beginOwn

@@ -1,7 +1,7 @@
--- `step_begins::opens::unopened` meets its contract. Assumes nothing.
+-- `step_opens::unopened` meets its contract. Assumes nothing.
 use borrow.Author.Needs.{needs}
-use Rattle.step_begins.proofs.opens.unopened.Statement.{statement}
-use Rattle.step_begins.proofs.opens.unopened.Tie as tie
+use Rattle.step_opens.proofs.unopened.Statement.{statement}
+use Rattle.step_opens.proofs.unopened.Tie as tie
 
 returns : tie.Need-returns
 returns c = rw (c .before .start .ensures) at (c .opened .ensures)

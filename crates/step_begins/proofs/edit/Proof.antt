@@ -1,9 +1,9 @@
--- `step_begins::begins::edit` meets its contract. Assumes nothing.
+-- `step_begins::edit` meets its contract. Assumes nothing.
 use Rattle.gates.proofs.Passing.{barred-out, let-in}
 use Rattle.step_begins.specs.Beginning.{editBars, editOwn}
 use borrow.Author.Needs.{needs}
-use Rattle.step_begins.proofs.begins.edit.Statement.{statement}
-use Rattle.step_begins.proofs.begins.edit.Tie as tie
+use Rattle.step_begins.proofs.edit.Statement.{statement}
+use Rattle.step_begins.proofs.edit.Tie as tie
 
 returns : tie.Need-returns
 unfolding editOwn
