@@ -19,7 +19,8 @@ use Rattle.wholeness.specs.Whole.{lengthsFit, countsFit, stagedFits, forwardFit
 use Rattle.gates.specs.Gates.{gateOf, gated}
 use Rattle.step_opens.specs.Opening.{opening, openStep}
 use Rattle.step_begins.specs.Beginning.{firstPhase, begun, beginOwn, editOwn}
-use Rattle.step_asks.specs.Asks.{askStructureOwn, askUpdateOwn, askRollbackOwn, turned}
+use Rattle.step_asks.specs.Asks.{askStructureOwn, askUpdateOwn}
+use Rattle.step_rollbacks.specs.Rollbacks.{askRollbackOwn, turned}
 use Rattle.step_reports.specs.Done.{onward, advanced, structureDone, updateDone, least, leaving, rollbackDone}
 use Rattle.step_reports.specs.Reports.{reported, reportStructureOwn, reportUpdateOwn, reportRollbackOwn}
 use Rattle.step_ends.specs.Ending.{commitOwn, refreshOwn}

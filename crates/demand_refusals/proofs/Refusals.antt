@@ -27,7 +27,8 @@ use Rattle.wholeness.proofs.Facts.{parts, live-structure}
 use Rattle.gates.proofs.Passing.{Clear}
 use Rattle.step_opens.specs.Opening.{unopened, openBars, openStep}
 use Rattle.step_begins.specs.Beginning.{beginBars, beginOwn, editBars, editOwn}
-use Rattle.step_asks.specs.Asks.{askStructureOwn, askUpdateOwn, askRollbackOwn}
+use Rattle.step_asks.specs.Asks.{askStructureOwn, askUpdateOwn}
+use Rattle.step_rollbacks.specs.Rollbacks.{askRollbackOwn}
 use Rattle.step_reports.specs.Done.{onward, advanced, structureDone, updateDone, rollbackDone}
 use Rattle.step_reports.specs.Reports.{reported, storing, reportStructureBars, reportStructureOwn, reportUpdateBars, reportUpdateOwn, reportRollbackBars, reportRollbackOwn}
 use Rattle.step_ends.specs.Ending.{commitBars, commitOwn, refreshBars, refreshOwn}

@@ -1,4 +1,4 @@
--- `step_asks::ask_rollback` meets its contract: a return for each test of the definition. Assumes nothing.
+-- `step_rollbacks::ask_rollback` meets its contract: a return for each test of the definition. Assumes nothing.
 use mathlib.Core.Path.{_≡_, sym, _∙_, ap}
 use mathlib.Core.Bool.{Bool, true, false}
 use Prim.Native.Nat.{_+_, _-_}
@@ -13,10 +13,11 @@ use Rattle.record.specs.Answers.{answer}
 use Rattle.answers.specs.declared.Answer.the-variants.{Finished}
 use Rattle.tickets.specs.declared.Live.the-variants.{None, Rollback}
 use Rattle.gates.proofs.Passing.{shut, opened}
-use Rattle.step_asks.specs.Asks.{askRollbackOwn, turned, issued}
+use Rattle.issuing.specs.Issuing.{issued}
+use Rattle.step_rollbacks.specs.Rollbacks.{askRollbackOwn, turned}
 use borrow.Author.Needs.{needs}
-use Rattle.step_asks.proofs.ask_rollback.Statement.{statement}
-use Rattle.step_asks.proofs.ask_rollback.Tie as tie
+use Rattle.step_rollbacks.proofs.ask_rollback.Statement.{statement}
+use Rattle.step_rollbacks.proofs.ask_rollback.Tie as tie
 
 right : (a b : Bool) → a and b ≡ false → a ≡ true → b ≡ false
 unfolding _and_

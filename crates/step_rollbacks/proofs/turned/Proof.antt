@@ -1,4 +1,4 @@
--- `step_asks::turned` meets its contract. Assumes nothing.
+-- `step_rollbacks::turned` meets its contract. Assumes nothing.
 use Prim.Native.Nat.{ℕ}
 use mathlib.Core.Bool.{true}
 use mathlib.Core.Path.{refl, ap}
@@ -6,9 +6,9 @@ use Rattle.choice.specs.Pick.{_and_}
 use Rattle.choice.proofs.Picks.{yes, no}
 use Rattle.record.specs.Fields.{withPlace, withBatch}
 use Rattle.record.specs.declared.Record.{Record}
-use Rattle.step_asks.specs.Asks.{turned}
-use Rattle.step_asks.proofs.turned.Statement.{statement}
-use Rattle.step_asks.proofs.turned.Tie as tie
+use Rattle.step_rollbacks.specs.Rollbacks.{turned}
+use Rattle.step_rollbacks.proofs.turned.Statement.{statement}
+use Rattle.step_rollbacks.proofs.turned.Tie as tie
 
 -- the record on its way back, in a phase
 abbrev to : Record → ℕ → Record

@@ -1,12 +1,12 @@
--- `step_asks::issue` meets its contract. Assumes nothing.
+-- `issuing::issue` meets its contract. Assumes nothing.
 use mathlib.Core.Path.{_∙_, ap}
 use Prim.Native.Nat.{ℕ}
 use Rattle.record.specs.Fields.{withTicket}
 use Rattle.record.specs.Answers.{answer}
 use Rattle.answers.specs.declared.Answer.the-variants.{Ticket}
 use borrow.Author.Needs.{needs}
-use Rattle.step_asks.proofs.issue.Statement.{statement}
-use Rattle.step_asks.proofs.issue.Tie as tie
+use Rattle.issuing.proofs.issue.Statement.{statement}
+use Rattle.issuing.proofs.issue.Tie as tie
 
 returns : tie.Need-returns
 returns c =
