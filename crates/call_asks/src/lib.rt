@@ -30,7 +30,7 @@ pub fn ask_update(r: Record) -> Stepped
 pub fn ask_rollback(r: Record) -> Stepped
     ensures { λ s. ⌜ tells s ≡ leavesOf r (ask rollback) .told ⌝ }
 {
-    step_asks::ask_rollback(r, Findings::of(true))
+    step_rollbacks::ask_rollback(r, Findings::of(true))
 }
 
 // A stamp of the accepted settings, for a domain.

@@ -16,7 +16,7 @@ pub fn open(given: Opening, accepted: &mut [u8], payload: &[u8]) -> Stepped
     ensures { λ s. ⌜ leaves (tells s) (now (accepted .exit) ∷ [])
         ≡ leavesOf unopened (openAt given (now (accepted .entry)) (now (payload .entry))) ⌝ }
 {
-    let stepped = step_begins::open(areas::is_sized(accepted.len()), given, payload.len());
+    let stepped = step_opens::open(areas::is_sized(accepted.len()), given, payload.len());
     moves::payload(stepped, accepted, payload)
 }
 

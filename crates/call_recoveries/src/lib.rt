@@ -15,7 +15,7 @@ pub fn recover(r: Record, accepted: &mut [u8], exchange: &mut [u8], length: usiz
         ≡ leavesOf r (recover (now (accepted .entry)) (now (exchange .entry)) length) ⌝ }
 {
     let found = Findings::of(areas::is_sized(accepted.len()) & areas::is_sized(exchange.len()));
-    let stepped = step_ends::recover(r, found, length);
+    let stepped = step_recoveries::recover(r, found, length);
     exchanges::exchange(stepped, accepted, exchange)
 }
 
@@ -34,6 +34,6 @@ pub fn recover_retained(
             & areas::is_sized(recovery.len())
             & areas::is_sized(exchange.len()),
     );
-    let stepped = step_ends::recover_retained(r, found);
+    let stepped = step_recoveries::recover_retained(r, found);
     exchanges::replace(stepped, accepted, recovery, exchange)
 }

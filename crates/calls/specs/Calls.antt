@@ -6,11 +6,13 @@ use Rattle.record.specs.declared.Record.{Record}
 use Rattle.record.specs.declared.Opening.{Opening}
 use Rattle.record.specs.declared.Beginning.{Beginning}
 use Rattle.record.specs.declared.Outcome.{Outcome}
-use Rattle.step_begins.specs.Opening.{openStep}
+use Rattle.step_opens.specs.Opening.{openStep}
 use Rattle.step_begins.specs.Beginning.{beginStep, editStep}
-use Rattle.step_asks.specs.Asks.{askStructureStep, askUpdateStep, askRollbackStep}
+use Rattle.step_asks.specs.Asks.{askStructureStep, askUpdateStep}
+use Rattle.step_rollbacks.specs.Rollbacks.{askRollbackStep}
 use Rattle.step_reports.specs.Reports.{reportStructureStep, reportUpdateStep, reportRollbackStep}
-use Rattle.step_ends.specs.Ending.{commitStep, recoverStep, recoverRetainedStep, refreshStep}
+use Rattle.step_ends.specs.Ending.{commitStep, refreshStep}
+use Rattle.step_recoveries.specs.Recovering.{recoverStep, recoverRetainedStep}
 use Rattle.step_stamps.specs.Stamping.{stampStep, checkStep}
 use Rattle.step_stamps.specs.declared.SaveStamp.{SaveStamp}
 

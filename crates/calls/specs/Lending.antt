@@ -13,7 +13,7 @@ use Rattle.record.specs.declared.Opening.{Opening}
 use Rattle.record.specs.declared.Record.{Record}
 use Rattle.record.specs.declared.Outcome.{Outcome}
 use Rattle.step_stamps.specs.declared.SaveStamp.{SaveStamp}
-pub use Rattle.step_begins.specs.Opening.{unopened}
+pub use Rattle.step_opens.specs.Opening.{unopened}
 use Rattle.calls.specs.Calls.{Work, Report, Call, AnyCall, stepOf}
 use Rattle.calls.specs.Calls.AnyCall.{opens, calls}
 

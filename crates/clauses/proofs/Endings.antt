@@ -15,7 +15,8 @@ use Rattle.wholeness.specs.{Whole.whole, Whole.complete}
 use Rattle.gates.specs.{Gates.Bar, Gates.barring, Gates.longSnapshot}
 use Rattle.gates.proofs.Passing.{Clear, fails}
 use Rattle.record.specs.Given.{opening}
-use Rattle.step_ends.specs.Ending.{afterCommit, commitBars, commitOwn, unrestored, recoverBars, recoveredTo, recoverOwn, recoverRetainedOwn}
+use Rattle.step_ends.specs.Ending.{afterCommit, commitBars, commitOwn}
+use Rattle.step_recoveries.specs.Recovering.{unrestored, recoverBars, recoveredTo, recoverOwn, recoverRetainedOwn}
 use Rattle.calls.specs.{Calls.Call, Calls.step, Calls.Call.commit, Calls.Call.recover, Calls.Call.recoverRetained}
 use Rattle.demand_steps.proofs.{Own.own, Reading.whole-facts, Testing.ranges}
 use Rattle.clauses.specs.{Keeping.gained, Gaps.RecoverAnswer}

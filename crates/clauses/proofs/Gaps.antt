@@ -14,7 +14,8 @@ use Rattle.answers.specs.{Classes.Class.stepping, Classes.StepAnswer.finished}
 use Rattle.tickets.specs.{Live.isLive}
 use Rattle.tickets.specs.Live as Tickets
 use Rattle.wholeness.specs.Whole.{whole}
-use Rattle.step_asks.specs.Asks.{turned, askStructureOwn, askUpdateOwn, askRollbackOwn}
+use Rattle.step_asks.specs.Asks.{askStructureOwn, askUpdateOwn}
+use Rattle.step_rollbacks.specs.Rollbacks.{turned, askRollbackOwn}
 use Rattle.step_reports.specs.Done.{leaving, structureDone, updateDone, rollbackDone}
 use Rattle.step_reports.specs.Reports.{reported, reportStructureOwn, reportUpdateBars, reportUpdateOwn, reportRollbackBars, reportRollbackOwn}
 use Rattle.calls.specs.{Calls.step, Calls.Work.structure, Calls.Work.update, Calls.Work.rollback, Calls.Report.structured, Calls.Report.updated, Calls.Report.rolledBack}

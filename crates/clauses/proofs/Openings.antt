@@ -11,7 +11,7 @@ use Rattle.answers.specs.{Classes.Class.performed, Classes.refused, declared.An
 use Rattle.answers.specs.declared.Refusal.the-variants.{BadArea, TooLong}
 use Rattle.wholeness.specs.Whole.{whole}
 use Rattle.gates.proofs.Passing.{fails}
-use Rattle.step_begins.specs.Opening.{opening, openBars, openStep}
+use Rattle.step_opens.specs.Opening.{opening, openBars, openStep}
 use Rattle.log.specs.Log.{headWords, blank}
 use Rattle.events.proofs.Soundness.{blank-is}
 use Rattle.noting.specs.{Recorded.withLog, Through.leavesThrough}

@@ -10,7 +10,8 @@ use Rattle.record.specs.{Answers.Told, Fields.top, Fields.adopting, declared.Re
 use Rattle.answers.specs.{Classes.taken, Classes.Class.refusal, Classes.Class.stepping, Classes.StepAnswer.finished}
 use Rattle.answers.specs.{declared.Refusal.the-variants.Recovering}
 use Rattle.wholeness.specs.Whole.{whole, complete}
-use Rattle.step_asks.specs.Asks.{askUpdateOwn, turned, askRollbackOwn}
+use Rattle.step_asks.specs.Asks.{askUpdateOwn}
+use Rattle.step_rollbacks.specs.Rollbacks.{turned, askRollbackOwn}
 use Rattle.step_reports.specs.Done.{updateDone, leaving, rollbackDone}
 use Rattle.step_reports.specs.Reports.{reportUpdateBars, reportUpdateOwn, reportRollbackBars, reportRollbackOwn}
 use Rattle.calls.specs.{Calls.step, Calls.Work.update, Calls.Work.rollback, Calls.Report.updated, Calls.Report.rolledBack, Calls.Call.ask, Calls.Call.report}

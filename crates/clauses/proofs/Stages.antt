@@ -9,8 +9,9 @@ use Rattle.phases.specs.Phases.{remove, adopt, recoverRemove}
 use Rattle.record.specs.{Answers.Told, Answers.saidOf, Fields.top, Fields.spent, Fields.adopting, declared.Record.Record, declared.Opening.Opening}
 use Rattle.answers.specs.{Classes.successful}
 use Rattle.tickets.specs.Live as Tickets
-use Rattle.step_begins.specs.{Opening.opening, Opening.openStep, Beginning.begun}
-use Rattle.step_asks.specs.Asks.{turned}
+use Rattle.step_opens.specs.Opening.{opening, openStep}
+use Rattle.step_begins.specs.Beginning.{begun}
+use Rattle.step_rollbacks.specs.Rollbacks.{turned}
 use Rattle.step_reports.specs.Reports.{storing}
 use Rattle.calls.specs.{Calls.Report, Calls.Call, Calls.Report.structured, Calls.Report.updated, Calls.Report.rolledBack}
 use Rattle.demand_steps.specs.Watching.{Item, Watch, isFor, sees, watch, unwatched}

@@ -16,7 +16,7 @@ use Rattle.record.specs.declared.Opening.{Opening}
 use Rattle.record.specs.declared.Beginning.{Beginning}
 use Rattle.answers.specs.declared.Refusal.the-variants.{Pending, Idle, Capacity}
 use Rattle.wholeness.specs.Whole.{whole}
-use Rattle.step_begins.specs.Opening.{opening}
+use Rattle.step_opens.specs.Opening.{opening}
 use Rattle.step_begins.specs.Beginning.{firstPhase}
 use Rattle.clauses.specs.Keeping.{gained, SameBatch, Framed}
 

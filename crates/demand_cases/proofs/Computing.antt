@@ -17,12 +17,14 @@ use Rattle.record.specs.Fields.{adopting}
 use Rattle.record.specs.declared.Record.{Record}
 use Rattle.wholeness.specs.Whole.{lengthsFit, countsFit, stagedFits, forwardFits, backFits, restoringFits, liveFits, whole, complete}
 use Rattle.gates.specs.Gates.{gateOf, gated}
-use Rattle.step_begins.specs.Opening.{opening, openStep}
+use Rattle.step_opens.specs.Opening.{opening, openStep}
 use Rattle.step_begins.specs.Beginning.{firstPhase, begun, beginOwn, editOwn}
-use Rattle.step_asks.specs.Asks.{askStructureOwn, askUpdateOwn, askRollbackOwn, turned}
+use Rattle.step_asks.specs.Asks.{askStructureOwn, askUpdateOwn}
+use Rattle.step_rollbacks.specs.Rollbacks.{askRollbackOwn, turned}
 use Rattle.step_reports.specs.Done.{onward, advanced, structureDone, updateDone, least, leaving, rollbackDone}
 use Rattle.step_reports.specs.Reports.{reported, reportStructureOwn, reportUpdateOwn, reportRollbackOwn}
-use Rattle.step_ends.specs.Ending.{commitOwn, unrestored, recoverOwn, recoverRetainedOwn, refreshOwn}
+use Rattle.step_ends.specs.Ending.{commitOwn, refreshOwn}
+use Rattle.step_recoveries.specs.Recovering.{unrestored, recoverOwn, recoverRetainedOwn}
 use Rattle.step_stamps.specs.Stamping.{stampStep, passes, checkStep}
 use Rattle.log.specs.Log.{logSized, sound, full, appended, blank}
 use Rattle.events.specs.Entries.{eventIf}

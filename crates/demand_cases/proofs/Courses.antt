@@ -12,7 +12,7 @@ use Rattle.record.specs.Fields.{top}
 use Rattle.record.specs.Given.{at, beginning}
 use Rattle.record.specs.declared.Record.{Record}
 use Rattle.record.specs.declared.Outcome.the-variants.{Waiting, Failed, Done}
-use Rattle.step_begins.specs.Opening.{openStep}
+use Rattle.step_opens.specs.Opening.{openStep}
 use Rattle.calls.specs.Calls.{Call}
 use Rattle.calls.specs.Calls.Work.{structure, update, rollback}
 use Rattle.calls.specs.Calls.Report.{structured, updated, rolledBack}

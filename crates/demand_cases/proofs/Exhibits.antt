@@ -10,7 +10,7 @@ use Rattle.record.specs.declared.Record.{Record}
 use Rattle.tickets.specs.declared.Live.{Live}
 use Rattle.tickets.specs.declared.Live.the-variants.{None, Structure, Update, Rollback}
 use Rattle.wholeness.specs.Whole.{whole}
-use Rattle.step_begins.specs.Opening.{opening}
+use Rattle.step_opens.specs.Opening.{opening}
 use Rattle.demand_cases.proofs.Computing.{called}
 
 -- a staged record at serial 1: phase, forward, back; entries, applied, attempted, restoring; the live ticket

@@ -12,7 +12,7 @@ use Rattle.answers.specs.Answers.{Said, said}
 use Rattle.record.specs.Answers.{saidOf}
 use Rattle.record.specs.Given.{at, beginning}
 use Rattle.record.specs.declared.Outcome.the-variants.{Waiting, Done}
-use Rattle.step_begins.specs.Opening.{opening}
+use Rattle.step_opens.specs.Opening.{opening}
 use Rattle.step_ends.specs.Ending.{afterCommit}
 use Rattle.step_stamps.specs.Stamping.{saysStamping, saysChecked}
 use Rattle.step_stamps.specs.declared.Stamping.the-variants.{Taken}

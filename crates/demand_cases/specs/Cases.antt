@@ -13,7 +13,7 @@ use Rattle.record.specs.declared.Outcome.the-variants as O
 use Rattle.answers.specs.declared.Answer.the-variants.{Done, Refused, Ticket, Waiting, More, Finished}
 use Rattle.answers.specs.declared.Was.the-variants.{Nothing, Three}
 use Rattle.answers.specs.declared.Refusal.the-variants.{Capacity, NotReady, Recovering, Damaged, Stale}
-use Rattle.step_begins.specs.Opening.{opening, openStep}
+use Rattle.step_opens.specs.Opening.{opening, openStep}
 use Rattle.step_begins.specs.Beginning.{begun}
 use Rattle.step_stamps.specs.Stamping.{saysStamping, saysChecked}
 use Rattle.step_stamps.specs.declared.SaveStamp.{SaveStamp}

@@ -13,7 +13,8 @@ use Rattle.record.specs.Answers.{Told, refuse}
 use Rattle.record.specs.declared.Record.{Record}
 use Rattle.answers.specs.declared.Refusal.the-variants.{Idle, NotReady}
 use Rattle.wholeness.specs.Whole.{complete}
-use Rattle.step_ends.specs.Ending.{commitOwn, unrestored, recoverRetainedOwn}
+use Rattle.step_ends.specs.Ending.{commitOwn}
+use Rattle.step_recoveries.specs.Recovering.{unrestored, recoverRetainedOwn}
 use Rattle.calls.specs.Calls.{step}
 use Rattle.calls.specs.Calls.Call.{commit, recoverRetained}
 use Rattle.demand_steps.specs.Watching.{Item, Watch}

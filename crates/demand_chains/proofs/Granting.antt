@@ -13,7 +13,8 @@ use Rattle.record.specs.Answers.{Told}
 use Rattle.record.specs.Fields.{top}
 use Rattle.record.specs.declared.Record.{Record}
 use Rattle.wholeness.specs.Whole.{whole}
-use Rattle.step_asks.specs.Asks.{askStructureOwn, askUpdateOwn, askRollbackOwn}
+use Rattle.step_asks.specs.Asks.{askStructureOwn, askUpdateOwn}
+use Rattle.step_rollbacks.specs.Rollbacks.{askRollbackOwn}
 use Rattle.calls.specs.Calls.{Call, step}
 use Rattle.demand_chains.specs.Plans.{due}
 use Rattle.demand_steps.proofs.Own.{own}

@@ -20,7 +20,8 @@ use Rattle.tickets.specs.declared.Live.the-variants.{Structure, Update, Rollbac
 use Rattle.record.specs.declared.Outcome.the-variants.{Done}
 use Rattle.answers.specs.declared.Answer.the-variants as A
 use Rattle.wholeness.specs.Whole.{whole}
-use Rattle.step_asks.specs.Asks.{askStructureOwn, askUpdateOwn, askRollbackOwn, turned}
+use Rattle.step_asks.specs.Asks.{askStructureOwn, askUpdateOwn}
+use Rattle.step_rollbacks.specs.Rollbacks.{askRollbackOwn, turned}
 use Rattle.step_reports.specs.Done.{structureDone, updateDone, rollbackDone}
 use Rattle.step_reports.specs.Reports.{reported, reportStructureOwn, reportUpdateOwn, reportRollbackOwn}
 use Rattle.calls.specs.Calls.{Call, step}

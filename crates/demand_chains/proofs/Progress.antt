@@ -19,7 +19,8 @@ use Rattle.record.specs.Fields.{withPlace, adopting}
 use Rattle.record.specs.declared.Record.{Record}
 use Rattle.answers.specs.declared.Answer.the-variants.{Ticket, Finished}
 use Rattle.answers.specs.declared.Refusal.{Refusal}
-use Rattle.step_asks.specs.Asks.{askStructureOwn, askUpdateOwn, askRollbackOwn}
+use Rattle.step_asks.specs.Asks.{askStructureOwn, askUpdateOwn}
+use Rattle.step_rollbacks.specs.Rollbacks.{askRollbackOwn}
 use Rattle.calls.specs.Calls.{Report, Call, step}
 use Rattle.calls.specs.Calls.Work.{structure, update, rollback}
 use Rattle.calls.specs.Calls.Call.{ask}

@@ -12,7 +12,7 @@ use Rattle.answers.specs.Classes.{successful}
 use Rattle.record.specs.Answers.{Told, refuse}
 use Rattle.record.specs.declared.Record.{Record}
 use Rattle.answers.specs.declared.Refusal.the-variants.{Idle, NotReady, TooLong}
-use Rattle.step_ends.specs.Ending.{unrestored, recoverOwn, recoverRetainedOwn}
+use Rattle.step_recoveries.specs.Recovering.{unrestored, recoverOwn, recoverRetainedOwn}
 use Rattle.calls.specs.Calls.{step}
 use Rattle.calls.specs.Calls.Call.{recover, recoverRetained}
 use Rattle.demand_steps.specs.Watching.{Item, Watch}

@@ -14,7 +14,7 @@ use Rattle.record.specs.Given.Effect.{works}
 use Rattle.record.specs.Fields.{adopting}
 use Rattle.record.specs.declared.Record.{Record}
 use Rattle.step_begins.specs.Beginning.{begun}
-use Rattle.step_asks.specs.Asks.{turned}
+use Rattle.step_rollbacks.specs.Rollbacks.{turned}
 use Rattle.step_reports.specs.Done.{advanced}
 use Rattle.record.specs.Given.{opening}
 use Rattle.calls.specs.Calls.{Report, Call}

@@ -16,7 +16,7 @@ use Rattle.record.specs.declared.Record.{Record}
 use Rattle.record.specs.declared.Opening.{Opening}
 use Rattle.answers.specs.declared.Refusal.the-variants.{TooLong}
 use Rattle.wholeness.specs.Whole.{whole}
-use Rattle.step_begins.specs.Opening.{unopened, openBars, opening, openStep}
+use Rattle.step_opens.specs.Opening.{unopened, openBars, opening, openStep}
 use Rattle.calls.specs.Calls.{Call}
 use Rattle.demand_chains.specs.Sending.{Sent, afterSent, heardSent}
 use Rattle.demand_steps.specs.Watching.{Watch, watch, unwatched}

@@ -12,7 +12,7 @@ use Rattle.tickets.specs.Live as Tickets
 use Rattle.record.specs.Fields.{adopting}
 use Rattle.record.specs.declared.Record.{Record}
 use Rattle.step_begins.specs.Beginning.{firstPhase, begun}
-use Rattle.step_asks.specs.Asks.{turned}
+use Rattle.step_rollbacks.specs.Rollbacks.{turned}
 use Rattle.record.specs.Given.{opening}
 use Rattle.calls.specs.Calls.{Call}
 use Rattle.calls.specs.Calls.Report.{updated, rolledBack}

@@ -7,7 +7,7 @@ use Rattle.answers.specs.Classes.{Class}
 use Rattle.record.specs.Answers.{Told, refuse}
 use Rattle.record.specs.declared.Record.{Record}
 use Rattle.answers.specs.declared.Refusal.the-variants.{LogFull}
-use Rattle.step_begins.specs.Opening.{openStep}
+use Rattle.step_opens.specs.Opening.{openStep}
 use Rattle.calls.specs.Calls.{Call, stepWith, AnyCall}
 use Rattle.calls.specs.Calls.AnyCall.{opens, calls}
 use Rattle.calls.specs.Kinds.{kindOf, writtenAs}

@@ -13,7 +13,7 @@ use Rattle.record.specs.Answers.{Told, saidOf}
 use Rattle.record.specs.Fields.{top}
 use Rattle.record.specs.declared.Record.{Record}
 use Rattle.record.specs.declared.Opening.{Opening}
-use Rattle.step_begins.specs.Opening.{openStep}
+use Rattle.step_opens.specs.Opening.{openStep}
 use Rattle.step_stamps.specs.Stamping.{saysStamping}
 use Rattle.step_stamps.specs.declared.SaveStamp.{SaveStamp}
 use Rattle.step_stamps.specs.declared.Stamping.the-variants.{Taken}

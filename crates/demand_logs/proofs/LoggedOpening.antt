@@ -12,7 +12,7 @@ use Rattle.areas.specs.Areas.{sized, copied}
 use Rattle.answers.specs.Classes.{refused}
 use Rattle.record.specs.Leaves.{Leaves, leaves}
 use Rattle.record.specs.declared.Opening.{Opening}
-use Rattle.step_begins.specs.Opening.{openStep}
+use Rattle.step_opens.specs.Opening.{openStep}
 use Rattle.log.specs.Log.{logSized, count, room, roomOf, sound, blank}
 use Rattle.events.specs.Entries.{Entry, entries, logOf}
 use Rattle.events.proofs.Soundness.{blank-length, blank-count, blank-room, blank-sound}

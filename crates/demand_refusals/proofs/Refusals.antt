@@ -25,12 +25,14 @@ use Rattle.gates.specs.Gates.{gateOf, gated, Bar, barring, longSnapshot}
 use Rattle.gates.specs.declared.Gate.the-variants.{Open, Shut}
 use Rattle.wholeness.proofs.Facts.{parts, live-structure}
 use Rattle.gates.proofs.Passing.{Clear}
-use Rattle.step_begins.specs.Opening.{unopened, openBars, openStep}
+use Rattle.step_opens.specs.Opening.{unopened, openBars, openStep}
 use Rattle.step_begins.specs.Beginning.{beginBars, beginOwn, editBars, editOwn}
-use Rattle.step_asks.specs.Asks.{askStructureOwn, askUpdateOwn, askRollbackOwn}
+use Rattle.step_asks.specs.Asks.{askStructureOwn, askUpdateOwn}
+use Rattle.step_rollbacks.specs.Rollbacks.{askRollbackOwn}
 use Rattle.step_reports.specs.Done.{onward, advanced, structureDone, updateDone, rollbackDone}
 use Rattle.step_reports.specs.Reports.{reported, storing, reportStructureBars, reportStructureOwn, reportUpdateBars, reportUpdateOwn, reportRollbackBars, reportRollbackOwn}
-use Rattle.step_ends.specs.Ending.{commitBars, commitOwn, unrestored, recoverBars, recoverOwn, recoverRetainedOwn, refreshBars, refreshOwn}
+use Rattle.step_ends.specs.Ending.{commitBars, commitOwn, refreshBars, refreshOwn}
+use Rattle.step_recoveries.specs.Recovering.{unrestored, recoverBars, recoverOwn, recoverRetainedOwn}
 use Rattle.step_stamps.specs.Stamping.{stampStep, checkStep}
 use Rattle.calls.specs.Calls.{AnyCall, stepOf}
 use Rattle.calls.specs.Calls.Work.{structure, update, rollback}

@@ -16,7 +16,7 @@ use Rattle.record.specs.declared.Beginning.{Beginning}
 use Rattle.record.specs.declared.Outcome.{Outcome}
 use Rattle.record.specs.declared.Outcome.the-variants as O
 use Rattle.wholeness.specs.Whole.{whole, complete}
-use Rattle.step_asks.specs.Asks.{worn}
+use Rattle.issuing.specs.Issuing.{worn}
 use Rattle.calls.specs.Calls.{AnyCall}
 use Rattle.calls.specs.Calls.AnyCall.{opens, calls}
 use Rattle.calls.specs.Calls.Work.{structure, update, rollback}

@@ -22,10 +22,12 @@ use Rattle.answers.specs.declared.Refusal.the-variants.{Pending, Idle, Capacity
 use Rattle.gates.specs.Gates.{Bar, barring, longSnapshot}
 use Rattle.gates.proofs.Passing.{Fails}
 use Rattle.step_begins.specs.Beginning.{beginBars, beginOwn, editBars, editOwn}
-use Rattle.step_asks.specs.Asks.{askStructureOwn, askUpdateOwn, askRollbackOwn}
+use Rattle.step_asks.specs.Asks.{askStructureOwn, askUpdateOwn}
+use Rattle.step_rollbacks.specs.Rollbacks.{askRollbackOwn}
 use Rattle.step_reports.specs.Done.{structureDone, updateDone, leaving, rollbackDone}
 use Rattle.step_reports.specs.Reports.{reported, storing, reportStructureBars, reportStructureOwn, reportUpdateBars, reportUpdateOwn, reportRollbackBars, reportRollbackOwn}
-use Rattle.step_ends.specs.Ending.{commitBars, commitOwn, recoverBars, recoverOwn, recoverRetainedOwn, refreshBars, refreshOwn}
+use Rattle.step_ends.specs.Ending.{commitBars, commitOwn, refreshBars, refreshOwn}
+use Rattle.step_recoveries.specs.Recovering.{recoverBars, recoverOwn, recoverRetainedOwn}
 use Rattle.calls.specs.Calls.{Report, Call, stepWith, step}
 use Rattle.calls.specs.Calls.Work.{structure, update, rollback}
 use Rattle.calls.specs.Calls.Report.{structured, updated, rolledBack}

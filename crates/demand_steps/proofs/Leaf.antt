@@ -24,10 +24,13 @@ use Rattle.answers.specs.declared.Answer.the-variants.{Done, Finished}
 use Rattle.answers.specs.declared.Was.the-variants.{Nothing, Three}
 use Rattle.step_begins.specs.Beginning.{firstPhase, begun}
 use Rattle.record.specs.Given.{opening}
-use Rattle.step_asks.specs.Asks.{issue, started, turned}
+use Rattle.issuing.specs.Issuing.{issue}
+use Rattle.step_asks.specs.Asks.{started}
+use Rattle.step_rollbacks.specs.Rollbacks.{turned}
 use Rattle.step_reports.specs.Done.{advanced, raised, lowered}
 use Rattle.step_reports.specs.Reports.{storing}
-use Rattle.step_ends.specs.Ending.{afterCommit, recoveredTo}
+use Rattle.step_ends.specs.Ending.{afterCommit}
+use Rattle.step_recoveries.specs.Recovering.{recoveredTo}
 use Rattle.calls.specs.Calls.{Call}
 use Rattle.calls.specs.Calls.Work.{structure, update, rollback}
 use Rattle.calls.specs.Calls.Report.{structured, updated, rolledBack}

@@ -17,9 +17,11 @@ use Rattle.gates.specs.declared.Gate.{Gate}
 use Rattle.gates.specs.declared.Gate.the-variants.{Open, Shut}
 use Rattle.gates.proofs.Passing.{passed, Clear, Fails, fails}
 use Rattle.step_begins.specs.Beginning.{beginOwn, editOwn}
-use Rattle.step_asks.specs.Asks.{askStructureOwn, askUpdateOwn, askRollbackOwn}
+use Rattle.step_asks.specs.Asks.{askStructureOwn, askUpdateOwn}
+use Rattle.step_rollbacks.specs.Rollbacks.{askRollbackOwn}
 use Rattle.step_reports.specs.Reports.{reportStructureOwn, reportUpdateOwn, reportRollbackOwn}
-use Rattle.step_ends.specs.Ending.{commitOwn, recoverOwn, recoverRetainedOwn, refreshOwn}
+use Rattle.step_ends.specs.Ending.{commitOwn, refreshOwn}
+use Rattle.step_recoveries.specs.Recovering.{recoverOwn, recoverRetainedOwn}
 use Rattle.step_stamps.specs.Stamping.{saysStamping, saysChecked, stampOf, stampStep, passes, checkStep}
 use Rattle.step_stamps.specs.declared.Stamping.the-variants as S
 use Rattle.step_stamps.specs.declared.Checked.the-variants as C

@@ -8,7 +8,7 @@ use Rattle.record.specs.Answers.{Told}
 use Rattle.record.specs.Fields.{adopting}
 use Rattle.record.specs.declared.Record.{Record}
 use Rattle.step_begins.specs.Beginning.{firstPhase, begun}
-use Rattle.step_asks.specs.Asks.{turned}
+use Rattle.step_rollbacks.specs.Rollbacks.{turned}
 use Rattle.calls.specs.Calls.{Call}
 use Rattle.demand_steps.proofs.Leaf.{Leaf}
 use Rattle.demand_steps.proofs.Leaf.Goes.{last, more}

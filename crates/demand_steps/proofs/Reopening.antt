@@ -9,8 +9,9 @@ use Rattle.record.specs.Answers.{Told}
 use Rattle.record.specs.Given.{standing}
 use Rattle.record.specs.declared.Record.{Record}
 use Rattle.gates.specs.Gates.{Bar, barring, longSnapshot}
-use Rattle.step_begins.specs.Opening.{opening}
-use Rattle.step_ends.specs.Ending.{afterCommit, commitBars, commitOwn, recoverBars, recoverOwn, recoverRetainedOwn}
+use Rattle.step_opens.specs.Opening.{opening}
+use Rattle.step_ends.specs.Ending.{afterCommit, commitBars, commitOwn}
+use Rattle.step_recoveries.specs.Recovering.{recoverBars, recoverOwn, recoverRetainedOwn}
 use Rattle.calls.specs.Calls.{Call, step}
 use Rattle.calls.specs.Calls.Call.{commit, recover, recoverRetained}
 use Rattle.demand_steps.proofs.Own.{own, row, answers}

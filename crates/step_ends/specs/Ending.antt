@@ -1,13 +1,13 @@
--- Document 01, "The steps": commit, both recoveries and refresh. Assumes nothing.
+-- Document 01, "The steps": commit and refresh. Assumes nothing.
 use Prim.Native.Nat.{ℕ, _+_}
 use mathlib.Core.Bool.{Bool, not}
-use lib.Dec.{eqb, ltb}
+use lib.Dec.{eqb}
 use mathlib.Core.List.{List, [], _∷_}
 use Rattle.choice.specs.Pick.{_or_}
-use Rattle.phases.specs.Phases.{none, ready, recovered}
+use Rattle.phases.specs.Phases.{none, ready}
 use Rattle.wholeness.specs.Whole.{complete}
 use Rattle.record.specs.Fields.{withLengths}
-use Rattle.record.specs.Given.{opening, standing}
+use Rattle.record.specs.Given.{opening}
 use Rattle.record.specs.declared.Opening.{Opening}
 use Rattle.record.specs.Answers.{Told, answer}
 use Rattle.gates.specs.Gates.{gateOf, gated, Bar, _whenever_, barring, longSnapshot}
@@ -34,26 +34,6 @@ commitOwn r =
     barring (commitBars r) r
     (answer (Done (Three (r .accepted) (r .recovery) (r .entries))) (opening (afterCommit r) (r .candidate)))
 
--- "4 if entries > 0 or phase not 0 or 13"
-unfoldable pub unrestored : Record → Bool
-unrestored r = ltb 0 (r .entries) or not (eqb (r .phase .number) none or eqb (r .phase .number) recovered)
-
--- of both recoveries: "2; 4 if .."
-abbrev pub recoverBars : Record → List Bar → List Bar
-recoverBars r next = Idle whenever not (r .staged) ∷ NotReady whenever unrestored r ∷ next
-
--- "both recoveries with the old accepted, candidate and recovery lengths"
-abbrev pub recoveredTo : ℕ → Record → Told
-recoveredTo accepted r = answer (Done (Three (r .accepted) (r .candidate) (r .recovery))) (opening (standing r) accepted)
-
--- "Recover (exchange area, length): 2; 4 if ..; 8."
-unfoldable pub recoverOwn : Record → ℕ → Told
-recoverOwn r length = barring (recoverBars r (longSnapshot length [])) r (recoveredTo length r)
-
--- "Recover from the retained payload: 2, 4 alike"
-unfoldable pub recoverRetainedOwn : Record → Told
-recoverRetainedOwn r = barring (recoverBars r []) r (recoveredTo (r .recovery) r)
-
 -- "Refresh: 1, 8"
 abbrev pub refreshBars : Record → ℕ → List Bar
 refreshBars r length = Pending whenever r .staged ∷ longSnapshot length []
@@ -65,12 +45,6 @@ refreshOwn r length =
 
 abbrev pub commitStep : Bool → Bool → Record → Told
 commitStep sized sound r = gated (gateOf sized sound r) r (commitOwn r)
-
-abbrev pub recoverStep : Bool → Bool → Record → ℕ → Told
-recoverStep sized sound r length = gated (gateOf sized sound r) r (recoverOwn r length)
-
-abbrev pub recoverRetainedStep : Bool → Bool → Record → Told
-recoverRetainedStep sized sound r = gated (gateOf sized sound r) r (recoverRetainedOwn r)
 
 abbrev pub refreshStep : Bool → Bool → Record → ℕ → Told
 refreshStep sized sound r length = gated (gateOf sized sound r) r (refreshOwn r length)

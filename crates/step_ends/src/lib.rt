@@ -1,4 +1,4 @@
-// Ending a transaction: commit, the two recoveries; and refresh, which replaces the accepted payload while nothing is staged.
+// Ending a transaction by a commit; and refresh, which replaces the accepted payload while nothing is staged.
 use answers::Answer;
 use answers::Refusal;
 use answers::Was;
@@ -8,12 +8,10 @@ use record::Findings;
 use record::Opening;
 use record::Record;
 use record::Stepped;
-ghost use mathlib.Core.List.{[]};
 ghost use mathlib.Core.Path.{_≡_};
 ghost use Rattle.record.specs.Answers.{tells};
-ghost use Rattle.step_ends.specs.Ending.{unrestored, recoveredTo, commitBars, recoverBars, refreshBars};
-ghost use Rattle.step_ends.specs.Ending.{commitStep, recoverStep, recoverRetainedStep, refreshStep};
-ghost use Rattle.gates.specs.Gates.{gateOf, gated, through};
+ghost use Rattle.step_ends.specs.Ending.{commitBars, refreshBars, commitStep, refreshStep};
+ghost use Rattle.gates.specs.Gates.{gateOf, through};
 
 // The refusals of a commit, in their order.
 fn commit_gate(r: Record, found: Findings) -> Gate
@@ -40,47 +38,6 @@ pub fn commit(r: Record, found: Findings) -> Stepped
         serial: r.serial,
     };
     given.opened(r.candidate).answering(Answer::Done(was))
-}
-
-// Whether a recovery comes too early: entries are left to undo, or the way back is not at its end.
-fn unrestored(r: Record) -> bool
-    ensures { λ b. ⌜ b ≡ unrestored r ⌝ }
-{
-    (0 < r.entries) | !((r.phase.number == Phase::NONE) | (r.phase.number == Phase::RECOVERED))
-}
-
-// The refusals of both recoveries, in their order.
-fn recover_gate(r: Record, found: Findings) -> Gate
-    ensures { λ g. ⌜ g ≡ through (gateOf (found .sized) (found .sound) r) (recoverBars r []) ⌝ }
-{
-    gates::admit(r, found)
-        .bar(!r.staged, Refusal::Idle)
-        .bar(unrestored(r), Refusal::NotReady)
-}
-
-// What both recoveries do behind their gates: a payload of a length becomes the accepted one.
-fn recovered(r: Record, gate: Gate, accepted: usize) -> Stepped
-    ensures { λ s. ⌜ tells s ≡ gated gate r (recoveredTo accepted r) ⌝ }
-{
-    if let Gate::Shut(why) = gate {
-        return r.refuse(why);
-    }
-    let was = Was::Three(r.accepted, r.candidate, r.recovery);
-    r.standing().opened(accepted).answering(Answer::Done(was))
-}
-
-// A snapshot of a length, in the exchange area, becomes the accepted payload.
-pub fn recover(r: Record, found: Findings, length: usize) -> Stepped
-    ensures { λ s. ⌜ tells s ≡ recoverStep (found .sized) (found .sound) r length ⌝ }
-{
-    recovered(r, recover_gate(r, found).bar_snapshot(length), length)
-}
-
-// The retained recovery payload becomes the accepted one.
-pub fn recover_retained(r: Record, found: Findings) -> Stepped
-    ensures { λ s. ⌜ tells s ≡ recoverRetainedStep (found .sized) (found .sound) r ⌝ }
-{
-    recovered(r, recover_gate(r, found), r.recovery)
 }
 
 // The refusals of a refresh, in their order.
