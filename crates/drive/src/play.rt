@@ -6,7 +6,7 @@ use super::end::mark;
 use super::held::Lent;
 use super::held::SIDE;
 use super::output::ROOM;
-use super::output::put_told;
+use super::output::put_after;
 use super::prepare::settle;
 use super::prepare::write;
 use super::show::digests;
@@ -39,20 +39,22 @@ const LINE: usize = LONGEST + 1;
 // How many bytes are read, and written, at once.
 pub(crate) const CHUNK: usize = 65536;
 
-fn read_on(chunk: &mut [u8; CHUNK], bytes: &mut [u8; LINE], place: Place) -> Place {
-    next_line(chunk, bytes, place, b"drive: standard input")
-}
-
-fn command_in(bytes: &[u8], length: usize) -> Command {
-    read(front(bytes, length))
-}
-
-fn command_of(bytes: &[u8; LINE], length: usize) -> Command {
-    command_in(bytes, length)
-}
-
+// Writes out what waits before more is read from standard input, and where there may be no room for an answer.
 fn write_on(buffer: &[u8; CHUNK], written: usize, due: bool) -> usize {
     flush_before(due, buffer, written, ROOM, b"drive: standard output")
+}
+
+// The next line.
+fn read_on(chunk: &mut [u8; CHUNK], line: &mut [u8; LINE], place: Place) -> Place {
+    next_line(chunk, line, place, b"drive: standard input")
+}
+
+fn command_in(line: &[u8], length: usize) -> Command {
+    read(front(line, length))
+}
+
+fn command_of(line: &[u8; LINE], length: usize) -> Command {
+    command_in(line, length)
 }
 
 // The record of an opening at 0, 0 with an empty payload.
@@ -141,17 +143,19 @@ fn perform(
     }
 }
 
-// Runs the script on standard input, line after line, until it ends.
-pub(crate) fn play() {
+// Line after line, until nothing is left to read; all that waited has been written out then. What the calls work on is held here, and
+// the rest is lent: room for a line, for what is read and what waits to be written, and for payloads and words that a line names.
+fn run(
+    line: &mut [u8; LINE],
+    chunk: &mut [u8; CHUNK],
+    buffer: &mut [u8; CHUNK],
+    scratch: &mut [u8; SIDE],
+    pairs: &mut [u64; HELD_TABLE],
+) {
     let mut left = [0u8; SIDE];
     let mut right = [0u8; SIDE];
     let mut t = [0u64; HELD_TABLE];
     let mut l = [0u64; HELD_LOG];
-    let mut scratch = [0u8; SIDE];
-    let mut pairs = [0u64; HELD_TABLE];
-    let mut bytes = [0u8; LINE];
-    let mut chunk = [0u8; CHUNK];
-    let mut buffer = [0u8; CHUNK];
     let mut record = first_record();
     let mut lent = Lent::first();
     let mut place = start();
@@ -160,13 +164,12 @@ pub(crate) fn play() {
     while number < u64::MAX {
         number += 1;
         let due = place.at == place.filled;
-        written = write_on(&buffer, written, due);
-        place = read_on(&mut chunk, &mut bytes, place);
-        // The end: nothing was left to read, so all that waited has been written out.
+        written = write_on(buffer, written, due);
+        place = read_on(chunk, line, place);
         if place.ended & (place.length == 0) {
             return;
         }
-        let command = command_of(&bytes, place.length);
+        let command = command_of(line, place.length);
         let after = perform(
             command,
             record,
@@ -175,12 +178,22 @@ pub(crate) fn play() {
             &mut right,
             &mut t,
             &mut l,
-            &mut scratch,
-            &mut pairs,
+            scratch,
+            pairs,
         );
         record = after.record;
         lent = lent_after(command, lent);
-        let told = after.told;
-        written = put_told(&mut buffer, written, told, record, number);
+        written = put_after(buffer, written, after, number);
     }
+}
+
+// Runs the script on standard input.
+pub(crate) fn play() {
+    run(
+        &mut [0u8; LINE],
+        &mut [0u8; CHUNK],
+        &mut [0u8; CHUNK],
+        &mut [0u8; SIDE],
+        &mut [0u64; HELD_TABLE],
+    );
 }
