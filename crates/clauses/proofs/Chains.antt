@@ -9,7 +9,7 @@ use Rattle.choice.specs.Pick.{pick, _or_}
 use Rattle.choice.proofs.Tests.{both, either}
 use Rattle.record.specs.{Fields.top, declared.Record.Record, declared.Opening.Opening}
 use Rattle.answers.specs.{Classes.successful, Classes.Class.performed}
-use Rattle.wholeness.specs.Whole.{complete}
+use Rattle.completeness.specs.Complete.{complete}
 use Rattle.step_opens.specs.Opening.{openStep}
 use Rattle.calls.specs.{Calls.step, Calls.Call.commit, Calls.Call.recover}
 use Rattle.demand_steps.specs.Watching.{Item, Watch, watch, unwatched}

@@ -11,7 +11,8 @@ use Rattle.areas.specs.Areas.{areaSize, long}
 use Rattle.record.specs.{Answers.Told, Answers.answer, Fields.top, declared.Record.Record}
 use Rattle.answers.specs.{Classes.Class, Classes.Class.refusal, declared.Answer.the-variants.Done, declared.Was.the-variants.Three}
 use Rattle.answers.specs.{declared.Refusal.the-variants.Idle, declared.Refusal.the-variants.NotReady}
-use Rattle.wholeness.specs.{Whole.whole, Whole.complete}
+use Rattle.wholeness.specs.{Whole.whole}
+use Rattle.completeness.specs.{Complete.complete}
 use Rattle.gates.specs.{Gates.Bar, Gates.barring, Gates.longSnapshot}
 use Rattle.gates.proofs.Passing.{Clear, fails}
 use Rattle.record.specs.Given.{opening}

@@ -9,7 +9,8 @@ use Rattle.choice.proofs.Tests.{never, either, neither, join, no-left, no-right
 use Rattle.record.specs.{Answers.Told, Fields.top, Fields.adopting, declared.Record.Record, declared.Outcome.Outcome}
 use Rattle.answers.specs.{Classes.taken, Classes.Class.refusal, Classes.Class.stepping, Classes.StepAnswer.finished}
 use Rattle.answers.specs.{declared.Refusal.the-variants.Recovering}
-use Rattle.wholeness.specs.Whole.{whole, complete}
+use Rattle.wholeness.specs.Whole.{whole}
+use Rattle.completeness.specs.Complete.{complete}
 use Rattle.step_asks.specs.Asks.{askUpdateOwn}
 use Rattle.step_rollbacks.specs.Rollbacks.{turned, askRollbackOwn}
 use Rattle.step_reports.specs.Done.{updateDone, leaving, rollbackDone}

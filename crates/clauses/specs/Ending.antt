@@ -15,7 +15,8 @@ use Rattle.record.specs.Answers.{Told}
 use Rattle.record.specs.Given.{standing}
 use Rattle.record.specs.declared.Record.{Record}
 use Rattle.answers.specs.declared.Refusal.the-variants.{Pending, Idle, NotReady}
-use Rattle.wholeness.specs.Whole.{whole, complete}
+use Rattle.wholeness.specs.Whole.{whole}
+use Rattle.completeness.specs.Complete.{complete}
 use Rattle.step_opens.specs.Opening.{opening}
 use Rattle.step_ends.specs.Ending.{afterCommit}
 use Rattle.step_stamps.specs.declared.SaveStamp.{SaveStamp}

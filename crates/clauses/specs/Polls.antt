@@ -17,7 +17,7 @@ use Rattle.record.specs.declared.Outcome.{Outcome}
 use Rattle.record.specs.declared.Outcome.the-variants as O
 use Rattle.answers.specs.declared.Answer.the-variants.{Waiting, Failed}
 use Rattle.answers.specs.declared.Refusal.the-variants.{NotReady, Recovering, Stale}
-use Rattle.wholeness.specs.Whole.{complete}
+use Rattle.completeness.specs.Complete.{complete}
 use Rattle.clauses.specs.Keeping.{gained, SameStaged, Framed}
 
 -- `Pending` and `Ready(Err(_))`: Ticket, Waiting and Failed, and the refusals 4 and 5

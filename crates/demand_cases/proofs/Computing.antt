@@ -15,7 +15,8 @@ use Rattle.tickets.specs.Live.{isLive}
 use Rattle.record.specs.Given.{at}
 use Rattle.record.specs.Fields.{adopting}
 use Rattle.record.specs.declared.Record.{Record}
-use Rattle.wholeness.specs.Whole.{lengthsFit, countsFit, stagedFits, forwardFits, backFits, restoringFits, liveFits, whole, complete}
+use Rattle.wholeness.specs.Whole.{lengthsFit, countsFit, stagedFits, forwardFits, backFits, restoringFits, liveFits, whole}
+use Rattle.completeness.specs.Complete.{complete}
 use Rattle.gates.specs.Gates.{gateOf, gated}
 use Rattle.step_opens.specs.Opening.{opening, openStep}
 use Rattle.step_begins.specs.Beginning.{firstPhase, begun, beginOwn, editOwn}

@@ -12,7 +12,7 @@ use Rattle.answers.specs.Classes.{successful}
 use Rattle.record.specs.Answers.{Told, refuse}
 use Rattle.record.specs.declared.Record.{Record}
 use Rattle.answers.specs.declared.Refusal.the-variants.{Idle, NotReady}
-use Rattle.wholeness.specs.Whole.{complete}
+use Rattle.completeness.specs.Complete.{complete}
 use Rattle.step_ends.specs.Ending.{commitOwn}
 use Rattle.step_recoveries.specs.Recovering.{unrestored, recoverRetainedOwn}
 use Rattle.calls.specs.Calls.{step}

@@ -12,7 +12,7 @@ use Rattle.record.specs.Answers.{Told, saidOf}
 use Rattle.record.specs.Given.Effect.{works}
 use Rattle.record.specs.declared.Record.{Record}
 use Rattle.answers.specs.declared.Refusal.the-variants.{NotReady}
-use Rattle.wholeness.specs.Whole.{complete}
+use Rattle.completeness.specs.Complete.{complete}
 use Rattle.step_ends.specs.Ending.{commitBars, commitOwn}
 use Rattle.calls.specs.Calls.{Report, Call, step}
 use Rattle.calls.specs.Calls.Call.{commit}

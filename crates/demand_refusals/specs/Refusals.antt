@@ -15,7 +15,8 @@ use Rattle.record.specs.declared.Record.{Record}
 use Rattle.record.specs.declared.Beginning.{Beginning}
 use Rattle.record.specs.declared.Outcome.{Outcome}
 use Rattle.record.specs.declared.Outcome.the-variants as O
-use Rattle.wholeness.specs.Whole.{whole, complete}
+use Rattle.wholeness.specs.Whole.{whole}
+use Rattle.completeness.specs.Complete.{complete}
 use Rattle.issuing.specs.Issuing.{worn}
 use Rattle.calls.specs.Calls.{AnyCall}
 use Rattle.calls.specs.Calls.AnyCall.{opens, calls}

@@ -5,7 +5,7 @@ use lib.Dec.{eqb}
 use mathlib.Core.List.{List, [], _∷_}
 use Rattle.choice.specs.Pick.{_or_}
 use Rattle.phases.specs.Phases.{none, ready}
-use Rattle.wholeness.specs.Whole.{complete}
+use Rattle.completeness.specs.Complete.{complete}
 use Rattle.record.specs.Fields.{withLengths}
 use Rattle.record.specs.Given.{opening}
 use Rattle.record.specs.declared.Opening.{Opening}

@@ -19,7 +19,7 @@ fn commit_gate(r: Record, found: Findings) -> Gate
 {
     let p = r.phase.number;
     gates::admit(r, found).bar(!r.staged, Refusal::Idle).bar(
-        !wholeness::complete(r) | !((p == Phase::NONE) | (p == Phase::READY)),
+        !completeness::complete(r) | !((p == Phase::NONE) | (p == Phase::READY)),
         Refusal::NotReady,
     )
 }

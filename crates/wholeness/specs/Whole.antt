@@ -1,5 +1,5 @@
--- Document 01, "What is lent and kept": when a record is whole, and when it is complete. One definition a rule of the list,
--- over plain fields: n entries, a applied, k attempted, p the phase, f forward, b back. Assumes nothing.
+-- Document 01, "What is lent and kept": when a record is whole. One definition a rule of the list, over plain
+-- fields: n entries, a applied, k attempted, p the phase, f forward, b back. Assumes nothing.
 use Prim.Native.Nat.{ℕ, _+_}
 use mathlib.Core.Bool.{Bool, not}
 use lib.Dec.{leb, ltb, eqb}
@@ -82,7 +82,3 @@ whole r =
     and backFits (r .phase .number) (r .back)
     and restoringFits (r .restoring) (r .phase .number) (r .entries) (r .applied) (r .attempted)
     and liveFits (r .live) (r .serial) (r .restoring) (r .phase .number) (r .entries) (r .applied) (r .attempted)
-
--- "Complete means not restoring and applied = entries."
-unfoldable pub complete : Record → Bool
-complete r = not (r .restoring) and eqb (r .applied) (r .entries)

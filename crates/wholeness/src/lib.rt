@@ -1,10 +1,10 @@
-// When a record is whole, and when it is complete.
+// When a record is whole.
 use phases::Phase;
 use record::MAX;
 use record::Record;
 use tickets::Live;
 ghost use mathlib.Core.Path.{_≡_};
-ghost use Rattle.wholeness.specs.Whole.{lengthsFit, countsFit, stagedFits, forwardFits, backFits, restoringFits, liveFits, whole, complete};
+ghost use Rattle.wholeness.specs.Whole.{lengthsFit, countsFit, stagedFits, forwardFits, backFits, restoringFits, liveFits, whole};
 ghost use Prim.Native.Nat.{_+_};
 ghost use lib.Dec.{eqb};
 
@@ -110,11 +110,4 @@ pub fn whole(r: Record) -> bool
         & back_fits(r)
         & restoring_fits(r)
         & live_fits(r)
-}
-
-// Every action is applied, and nothing is being undone.
-pub fn complete(r: Record) -> bool
-    ensures { λ b. ⌜ b ≡ complete r ⌝ }
-{
-    !r.restoring & (r.applied == r.entries)
 }
