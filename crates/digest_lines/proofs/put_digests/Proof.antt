@@ -1,9 +1,9 @@
--- `printing::put_digests` meets its contract: its four lines are put one after the other. Assumes nothing.
+-- `digest_lines::put_digests` meets its contract: its four lines are put one after the other. Assumes nothing.
 use borrow.Author.Needs.{needs}
-use Rattle.printing.specs.Printing.{digestsText}
-use Rattle.printing.proofs.Putting.{put-four}
-use Rattle.printing.proofs.put_digests.Statement.{statement}
-use Rattle.printing.proofs.put_digests.Tie as tie
+use Rattle.digest_lines.specs.DigestTexts.{digestsText}
+use Rattle.digest_lines.proofs.Putting.{put-four}
+use Rattle.digest_lines.proofs.put_digests.Statement.{statement}
+use Rattle.digest_lines.proofs.put_digests.Tie as tie
 
 returns : tie.Need-returns
 unfolding digestsText
