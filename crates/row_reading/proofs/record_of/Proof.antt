@@ -1,4 +1,4 @@
--- `rows::record_of` meets its contract: a number whose test passed fits its field. Assumes nothing.
+-- `row_reading::record_of` meets its contract: a number whose test passed fits its field. Assumes nothing.
 use mathlib.Core.Path.{refl, ap}
 use borrow.Author.Needs.{needs}
 use borrow.Author.Tests.{eq-eqb}
@@ -7,11 +7,11 @@ use Rattle.choice.proofs.Picks.{yes, no, told}
 use Rattle.choice.proofs.Tests.{join, no-right}
 use Rattle.record.specs.Fields.{withTicket}
 use Rattle.tickets.specs.declared.Live.{Live}
-use Rattle.rows.specs.declared.Row.the-variants.{Fits}
-use Rattle.rows.specs.Rows.{at, made, recordOf}
-use Rattle.rows.proofs.Ranges.{ranged}
-use Rattle.rows.proofs.record_of.Statement.{statement}
-use Rattle.rows.proofs.record_of.Tie as tie
+use Rattle.row_reading.specs.declared.Row.the-variants.{Fits}
+use Rattle.row_reading.specs.RowReading.{at, made, recordOf}
+use Rattle.row_reading.proofs.Ranges.{ranged}
+use Rattle.row_reading.proofs.record_of.Statement.{statement}
+use Rattle.row_reading.proofs.record_of.Tie as tie
 
 cast-live-of : tie.Need-cast-live-of
 cast-live-of c = omega (arith, ranged _ (told (c .before .in-ranges .ensures) (c .if1 .taken)))

@@ -1,11 +1,11 @@
--- `rows::live_of` meets its contract. Assumes nothing.
+-- `row_reading::live_of` meets its contract. Assumes nothing.
 use mathlib.Core.Path.{refl}
 use borrow.Author.Tests.{ne-eqb}
 use Rattle.choice.specs.Pick.{pick}
 use Rattle.choice.proofs.Picks.{no}
-use Rattle.rows.specs.Rows.{liveOf}
-use Rattle.rows.proofs.live_of.Statement.{statement}
-use Rattle.rows.proofs.live_of.Tie as tie
+use Rattle.row_reading.specs.RowReading.{liveOf}
+use Rattle.row_reading.proofs.live_of.Statement.{statement}
+use Rattle.row_reading.proofs.live_of.Tie as tie
 
 returns : tie.Need-returns
 unfolding liveOf pick

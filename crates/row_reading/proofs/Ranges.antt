@@ -1,19 +1,14 @@
--- What the tests of a row say of its numbers, and a flag's number both ways. Assumes nothing.
+-- What the tests of a row say of its numbers. Assumes nothing.
 use Prim.Native.Nat.{ℕ, _≤_}
-use mathlib.Core.Path.{_≡_, refl}
-use mathlib.Core.Bool.{Bool, true, false, not}
+use mathlib.Core.Path.{_≡_}
+use mathlib.Core.Bool.{true, not}
 use mathlib.Core.List.{List}
 use lib.Dec.{eqb}
-use mir.Val.{boolByte}
 use Rattle.choice.specs.Pick.{_or_}
 use Rattle.choice.proofs.Tests.{both, tests}
 use Rattle.tickets.specs.Live.{noTicket, rollback}
-use Rattle.rows.specs.Rows.{at, flag, inRanges, top8, top32}
-
--- a bool's byte is its flag
-pub flag-byte : (b : Bool) → boolByte b ≡ flag b
-flag-byte true = refl
-flag-byte false = refl
+use Rattle.rows.specs.Rows.{top8, top32}
+use Rattle.row_reading.specs.RowReading.{at, inRanges}
 
 pub record Ranged (row : List ℕ) : Type 0 where
   pub staged : at row 5 ≤ 1

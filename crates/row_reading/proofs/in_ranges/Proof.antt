@@ -1,10 +1,10 @@
--- `rows::in_ranges` meets its contract. Assumes nothing.
+-- `row_reading::in_ranges` meets its contract. Assumes nothing.
 use mathlib.Core.Path.{refl}
 use Rattle.choice.specs.Pick.{_and_, _or_}
-use Rattle.rows.specs.Rows.{inRanges}
+use Rattle.row_reading.specs.RowReading.{inRanges}
 use borrow.Author.Needs.{needs}
-use Rattle.rows.proofs.in_ranges.Statement.{statement}
-use Rattle.rows.proofs.in_ranges.Tie as tie
+use Rattle.row_reading.proofs.in_ranges.Statement.{statement}
+use Rattle.row_reading.proofs.in_ranges.Tie as tie
 
 returns : tie.Need-returns
 unfolding inRanges _and_ _or_

@@ -14,9 +14,10 @@ use Rattle.tickets.specs.Live.{noTicket, rollback, workOf, number}
 use Rattle.record.specs.declared.Record.{Record}
 use Rattle.tickets.specs.declared.Live.{Live}
 use Rattle.tickets.specs.declared.Live.the-variants.{None, Structure, Update, Rollback}
-use Rattle.rows.specs.Rows.{at, flag, rowOf, fields, top8, top32, inRanges, liveOf, made, recordOf}
-use Rattle.rows.specs.declared.Row.the-variants.{Fits, Misfit}
-use Rattle.rows.proofs.Ranges.{Ranged, ranged}
+use Rattle.rows.specs.Rows.{flag, rowOf, fields, top8, top32}
+use Rattle.row_reading.specs.RowReading.{at, inRanges, liveOf, made, recordOf}
+use Rattle.row_reading.specs.declared.Row.the-variants.{Fits, Misfit}
+use Rattle.row_reading.proofs.Ranges.{Ranged, ranged}
 
 -- what the types of a record's fields say of its numbers
 pub record Typed (r : Record) : Type 0 where
