@@ -2,8 +2,8 @@
 use super::play::CHUNK;
 use super::telling::After;
 use super::telling::Told;
+use digest_lines::put_digests;
 use lines::put_line;
-use printing::put_digests;
 use printing::put_record;
 use printing::put_reply;
 

@@ -21,16 +21,16 @@ use console::next_line;
 use console::start;
 use holdings::HELD_LOG;
 use holdings::HELD_TABLE;
+use mark_replies::of_mark;
 use record::Opening;
 use record::Record;
 use replies::Reply;
-use replies::of_check;
-use replies::of_mark;
-use replies::of_stamp;
 use script::Command;
 use script::LONGEST;
 use script::Planning;
 use script::read;
+use stamp_replies::of_check;
+use stamp_replies::of_stamp;
 use text::front;
 
 // A line is kept up to one byte more than it may have, so that one that is too long is seen to be so.

@@ -2,11 +2,11 @@
 use super::held::SECOND;
 use super::held::THIRD;
 use super::held::within;
+use digest_lines::Digests;
 use digests::digest;
 use digests::digest_words;
 use holdings::HELD_AREA;
 use holdings::HELD_MARKS;
-use printing::Digests;
 
 pub(crate) fn digests(left: &[u8], right: &[u8], table: &[u64], log: &[u64]) -> Digests {
     Digests {

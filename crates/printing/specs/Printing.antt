@@ -1,34 +1,16 @@
 -- The texts of the lines that programs write. The words and the order of the numbers are those of the driver's page: "each writes its
--- answer's number, then its values"; "`record` with its fifteen numbers as above, `bytes` with the digests of a, c, r, x, `table`
--- with the digest of t, `log` with the digest of l, `status` with the digests of g and s". Assumes nothing.
+-- answer's number, then its values"; "`record` with its fifteen numbers as above". Assumes nothing.
 use Prim.Native.Nat.{ℕ}
-use mathlib.Core.List.{List, [], _∷_, _++_}
+use mathlib.Core.List.{List, [], _∷_}
 use lib.ListN.{take}
 use Rattle.lines.specs.Lines.{lineText}
 use Rattle.record.specs.declared.Record.{Record}
 use Rattle.replies.specs.declared.Reply.{Reply}
 use Rattle.rows.specs.Rows.{rowOf}
-use Rattle.printing.specs.declared.Digests.{Digests}
 
--- the words that lines begin with, by their letters in ASCII: r e c o r d
+-- the word that the line begins with, by its letters in ASCII: r e c o r d
 abbrev pub recordWord : List ℕ
 recordWord = 114 ∷ 101 ∷ 99 ∷ 111 ∷ 114 ∷ 100 ∷ []
-
--- b y t e s
-abbrev pub bytesWord : List ℕ
-bytesWord = 98 ∷ 121 ∷ 116 ∷ 101 ∷ 115 ∷ []
-
--- t a b l e
-abbrev pub tableWord : List ℕ
-tableWord = 116 ∷ 97 ∷ 98 ∷ 108 ∷ 101 ∷ []
-
--- l o g
-abbrev pub logWord : List ℕ
-logWord = 108 ∷ 111 ∷ 103 ∷ []
-
--- s t a t u s
-abbrev pub statusWord : List ℕ
-statusWord = 115 ∷ 116 ∷ 97 ∷ 116 ∷ 117 ∷ 115 ∷ []
 
 -- an answer has no word before its number; as many numbers are told as its count says, and never more than four
 unfoldable pub replyText : Reply → List ℕ
@@ -36,11 +18,3 @@ replyText r = lineText [] (take (r .count) (r .number ∷ r .first ∷ r .second
 
 unfoldable pub recordText : Record → List ℕ
 recordText r = lineText recordWord (rowOf r)
-
--- the four lines, one after the other
-unfoldable pub digestsText : Digests → List ℕ
-digestsText d =
-    lineText bytesWord (d .accepted ∷ d .candidate ∷ d .recovery ∷ d .exchange ∷ [])
-    ++ (lineText tableWord (d .table ∷ [])
-    ++ (lineText logWord (d .log ∷ [])
-    ++ lineText statusWord (d .groups ∷ d .status ∷ [])))

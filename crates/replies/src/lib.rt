@@ -1,16 +1,12 @@
-// What a call answers as a row of numbers: document 01's number of the answer, and the values that follow it.
+// What a call of the transaction or of the recorder answers as a row of numbers: document 01's number of the answer, and the values that
+// follow it. What a stamp, its check and a call of the status part answer stand in `stamp_replies` and `mark_replies`.
 use answers::Answer;
 use answers::Refusal;
 use answers::Was;
-use status::Marked;
-use step_stamps::Checked;
-use step_stamps::Stamping;
 ghost use mathlib.Core.Path.{_≡_};
 ghost use mathlib.Core.List.{[]};
 ghost use Rattle.answers.specs.Answers.{says};
 ghost use Rattle.answers.specs.declared.Answer.the-variants.{Done, Refused};
-ghost use Rattle.step_stamps.specs.Stamping.{saysStamping, saysChecked};
-ghost use Rattle.status.specs.Status.{saysMarked};
 ghost use Rattle.replies.specs.Replies.{rowOf, reply, replyOf};
 
 // The number of an answer and its values, `count` numbers in all; those after them are zeros. No answer has more than three values.
@@ -74,39 +70,5 @@ pub fn of_answer(answer: Answer) -> Reply
         Answer::Waiting => bare(number),
         Answer::More => bare(number),
         Answer::Finished => bare(number),
-    }
-}
-
-// A stamp that was asked for.
-pub fn of_stamp(stamping: Stamping) -> Reply
-    ensures { λ r. ⌜ r ≡ replyOf (saysStamping stamping) ⌝ }
-{
-    match stamping {
-        Stamping::Taken(stamp) => {
-            let number = Answer::Done(Was::Nothing).number();
-            row(number, 3, stamp.domain, stamp.revision, 0)
-        }
-        Stamping::Refused(why) => of_refusal(why),
-    }
-}
-
-// A check of a stamp: 1 where it passes, else 0.
-pub fn of_check(checked: Checked) -> Reply
-    ensures { λ r. ⌜ r ≡ replyOf (saysChecked checked) ⌝ }
-{
-    match checked {
-        Checked::Passes => of_done(Was::One(1)),
-        Checked::Fails => of_done(Was::One(0)),
-        Checked::Refused(why) => of_refusal(why),
-    }
-}
-
-// A call of the status part.
-pub fn of_mark(marked: Marked) -> Reply
-    ensures { λ r. ⌜ r ≡ replyOf (saysMarked marked) ⌝ }
-{
-    match marked {
-        Marked::Done => of_done(Was::Nothing),
-        Marked::Refused(why) => of_refusal(why),
     }
 }

@@ -1,9 +1,7 @@
-// A record as a row of numbers, and back. Nothing is cut: a row that has a number past the range of its field is no record.
-use phases::Phase;
+// A record as a row of numbers, which `row_reading` reads back. No function asks anything of its caller.
 use record::Record;
-use tickets::Live;
 ghost use mathlib.Core.Path.{_≡_};
-ghost use Rattle.rows.specs.Rows.{rowOf, inRanges, liveOf, recordOf};
+ghost use Rattle.rows.specs.Rows.{rowOf};
 
 // How many numbers a record has.
 pub const FIELDS: usize = 15;
@@ -12,17 +10,6 @@ pub const FIELDS: usize = 15;
 pub const TOP8: u64 = u8::MAX as u64;
 
 pub const TOP32: u64 = u32::MAX as u64;
-
-// The first and the last kind of live ticket.
-const NONE: u64 = Live::NONE as u64;
-
-const ROLLBACK: u64 = Live::ROLLBACK as u64;
-
-// The record that a row is, or that a number of it is past the range of its field.
-pub enum Row {
-    Fits(Record),
-    Misfit,
-}
 
 // A number for each field, in the order of the driver's page.
 pub fn numbers(r: Record) -> [u64; FIELDS]
@@ -46,60 +33,4 @@ pub fn numbers(r: Record) -> [u64; FIELDS]
         live.work() as u64,
         live.number(),
     ]
-}
-
-// Whether each number is in the range of its field.
-fn in_ranges(row: [u64; FIELDS]) -> bool
-    ensures { λ b. ⌜ b ≡ inRanges row ⌝ }
-{
-    (row[5] <= 1)
-        & (row[6] <= TOP8)
-        & (row[7] <= TOP8)
-        & (row[8] <= TOP8)
-        & (row[9] <= TOP32)
-        & (row[10] <= TOP32)
-        & (row[11] <= TOP32)
-        & (row[12] <= 1)
-        & (row[13] <= ROLLBACK)
-        & ((row[13] != NONE) | (row[14] == 0))
-}
-
-// The live ticket by the number of its work.
-fn live_of(work: u8, number: u64) -> Live
-    ensures { λ l. ⌜ l ≡ liveOf work number ⌝ }
-{
-    match work {
-        Live::STRUCTURE => Live::Structure(number),
-        Live::UPDATE => Live::Update(number),
-        Live::ROLLBACK => Live::Rollback(number),
-        _ => Live::None,
-    }
-}
-
-// The record whose numbers these are.
-pub fn record_of(row: [u64; FIELDS]) -> Row
-    ensures { λ r. ⌜ r ≡ recordOf row ⌝ }
-{
-    if in_ranges(row) {
-        let live = live_of(row[13] as u8, row[14]);
-        return Row::Fits(Record {
-            revision: row[0],
-            serial: row[1],
-            accepted: row[2] as usize,
-            candidate: row[3] as usize,
-            recovery: row[4] as usize,
-            staged: row[5] == 1,
-            phase: Phase {
-                number: row[6] as u8,
-            },
-            forward: row[7] as u8,
-            back: row[8] as u8,
-            entries: row[9] as u32,
-            applied: row[10] as u32,
-            attempted: row[11] as u32,
-            restoring: row[12] == 1,
-            live: live,
-        });
-    }
-    Row::Misfit
 }

@@ -12,7 +12,7 @@ use holdings::Area;
 use record::Opening;
 use record::Outcome;
 use record::Reporting;
-use rows::Row;
+use row_reading::Row;
 use seeds::Seeded;
 use step_stamps::SaveStamp;
 use templates::NUMBERS;
@@ -78,7 +78,7 @@ fn preparing(key: u8, n: Numbers) -> Command {
         b'l' => lend(area, at),
         b'p' => put(area, at, n[2]),
         b'f' => Command::Prepare(Preparing::Fill(seeded(n[0], n[1]))),
-        _ => match rows::record_of(n) {
+        _ => match row_reading::record_of(n) {
             Row::Fits(given) => Command::Prepare(Preparing::Record(given)),
             Row::Misfit => Command::Bad,
         },

@@ -1,10 +1,17 @@
 -- `rows::numbers` meets its contract. Assumes nothing.
+use mathlib.Core.Path.{_≡_, refl}
+use mathlib.Core.Bool.{Bool, true, false}
+use mir.Val.{boolByte}
 use borrow.Author.Needs.{needs}
 use native.Mathlib.Omega.{arith}
-use Rattle.rows.specs.Rows.{rowOf}
-use Rattle.rows.proofs.Ranges.{flag-byte}
+use Rattle.rows.specs.Rows.{flag, rowOf}
 use Rattle.rows.proofs.numbers.Statement.{statement}
 use Rattle.rows.proofs.numbers.Tie as tie
+
+-- a bool's byte is its flag
+flag-byte : (b : Bool) → boolByte b ≡ flag b
+flag-byte true = refl
+flag-byte false = refl
 
 cast-t11 : tie.Need-cast-t11
 cast-t11 c = omega (arith, c .struct-known6 .given)
