@@ -1,6 +1,5 @@
-// Opening, and beginning a transaction of either kind, with what is lent.
+// Beginning a transaction of either kind, with what is lent.
 use call_stages::begin_as;
-use record::Opening;
 use record::Record;
 use record::Stepped;
 ghost use mathlib.Core.Path.{_≡_};
@@ -8,17 +7,8 @@ ghost use mathlib.Core.List.{_∷_, []};
 ghost use mathlib.Core.Bool.{true, false};
 ghost use Rattle.record.specs.Answers.{tells};
 ghost use Rattle.record.specs.Leaves.{leaves};
-ghost use Rattle.calls.specs.Lending.{leavesOf, unopened};
-ghost use Rattle.calls.specs.Lending.Lending.{openAt, begin};
-
-// A new record, with an accepted payload.
-pub fn open(given: Opening, accepted: &mut [u8], payload: &[u8]) -> Stepped
-    ensures { λ s. ⌜ leaves (tells s) (now (accepted .exit) ∷ [])
-        ≡ leavesOf unopened (openAt given (now (accepted .entry)) (now (payload .entry))) ⌝ }
-{
-    let stepped = step_opens::open(areas::is_sized(accepted.len()), given, payload.len());
-    moves::payload(stepped, accepted, payload)
-}
+ghost use Rattle.calls.specs.Lending.{leavesOf};
+ghost use Rattle.calls.specs.Lending.Lending.{begin};
 
 // An update-only transaction.
 pub fn begin(

@@ -1,4 +1,4 @@
-// Staging payloads and the pairs of a batch, with what is lent: either begin by its flag, and the edit.
+// Staging payloads and the pairs of a batch, with what is lent: either begin by its flag.
 use record::Beginning;
 use record::Findings;
 use record::Record;
@@ -8,7 +8,7 @@ ghost use mathlib.Core.List.{_∷_, []};
 ghost use Rattle.record.specs.Answers.{tells};
 ghost use Rattle.record.specs.Leaves.{leaves};
 ghost use Rattle.calls.specs.Lending.{leavesOf};
-ghost use Rattle.calls.specs.Lending.Lending.{begin, edit};
+ghost use Rattle.calls.specs.Lending.Lending.{begin};
 
 // Stages a candidate payload (`new`), a recovery payload (`old`) and the pairs of a batch, for a structural transaction or an
 // update-only one.
@@ -41,15 +41,4 @@ pub fn begin_as(
     let half = moves::payload(stepped, candidate, new);
     let staged = moves::payload(half, recovery, old);
     moves::pairs(staged, table, pairs)
-}
-
-// Replaces both staged payloads.
-pub fn edit(r: Record, candidate: &mut [u8], recovery: &mut [u8], new: &[u8], old: &[u8]) -> Stepped
-    ensures { λ s. ⌜ leaves (tells s) (now (candidate .exit) ∷ now (recovery .exit) ∷ [])
-        ≡ leavesOf r (edit (now (candidate .entry)) (now (recovery .entry)) (now (new .entry)) (now (old .entry))) ⌝ }
-{
-    let found = Findings::of(areas::is_sized(candidate.len()) & areas::is_sized(recovery.len()));
-    let stepped = step_begins::edit(r, found, new.len(), old.len());
-    let half = moves::payload(stepped, candidate, new);
-    moves::payload(half, recovery, old)
 }

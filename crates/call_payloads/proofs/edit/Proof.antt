@@ -1,8 +1,8 @@
--- `call_stages::edit` meets its contract: the step goes by the sizes of both areas. Assumes nothing.
+-- `call_payloads::edit` meets its contract: the step goes by the sizes of both areas. Assumes nothing.
 use Rattle.moves.proofs.Sizes.{both-areas}
 use borrow.Author.Needs.{needs}
-use Rattle.call_stages.proofs.edit.Statement.{statement}
-use Rattle.call_stages.proofs.edit.Tie as tie
+use Rattle.call_payloads.proofs.edit.Statement.{statement}
+use Rattle.call_payloads.proofs.edit.Tie as tie
 
 returns : tie.Need-returns
 returns c =

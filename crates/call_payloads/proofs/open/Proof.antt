@@ -1,9 +1,9 @@
--- `call_begins::open` meets its contract: the step goes by the area's size. Assumes nothing.
+-- `call_payloads::open` meets its contract: the step goes by the area's size. Assumes nothing.
 use Rattle.areas.specs.Areas.{sized}
 use Rattle.moves.proofs.Sizes.{told-by}
 use borrow.Author.Needs.{needs}
-use Rattle.call_begins.proofs.open.Statement.{statement}
-use Rattle.call_begins.proofs.open.Tie as tie
+use Rattle.call_payloads.proofs.open.Statement.{statement}
+use Rattle.call_payloads.proofs.open.Tie as tie
 
 returns : tie.Need-returns
 unfolding sized
