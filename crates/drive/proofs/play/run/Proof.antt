@@ -1,9 +1,9 @@
--- `drive::play::play` is safe and ends: the measure is the number of lines that can still be counted. Assumes nothing.
+-- `drive::play::run` is safe and ends: the measure is the number of lines that can still be counted. Assumes nothing.
 use Prim.Native.Nat.{_≤_, _-_}
 use native.Mathlib.Omega.{arith}
 use borrow.Author.Needs.{needs}
-use Rattle.drive.proofs.play.play.Statement.{statement}
-use Rattle.drive.proofs.play.play.Tie as tie
+use Rattle.drive.proofs.play.run.Statement.{statement}
+use Rattle.drive.proofs.play.run.Tie as tie
 
 abbrev Inv-loop : tie.InvT-loop
 Inv-loop left₀ right₀ t₀ l₀ scratch₀ pairs₀ bytes₀ chunk₀ buffer₀ record₀ lent₀ place₀ written₀ number₀ left right t l scratch pairs bytes chunk buffer «record» lent place written number =
@@ -18,8 +18,8 @@ loop-less c =
     let half = c .before .before .before .before .before .before .before .before .before .before .before in
     omega (arith, half .before .before .before .before .before .before .before .before .before .before .before .loop-test .taken)
 
-pub play-spec : {M : Type 1} → statement M
-play-spec =
+pub run-spec : {M : Type 1} → statement M
+run-spec =
     tie.close
     (tie.spec Inv-loop μ-loop (λ c. search needs) (λ c. search needs) (λ c. search needs) (λ c. search needs) (λ c. search needs)
     (λ c. search needs) (λ c. search needs) (λ c. search needs) (λ c. search needs) (λ c. search needs) (λ c. search needs)
