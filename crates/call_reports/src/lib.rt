@@ -1,4 +1,4 @@
-// The reports, with the payloads that they store.
+// The reports of an update and of an undoing, each with the payload that it stores.
 use record::Findings;
 use record::Record;
 use record::Reporting;
@@ -10,26 +10,7 @@ ghost use Rattle.record.specs.Answers.{tells};
 ghost use Rattle.record.specs.Leaves.{leaves};
 ghost use Rattle.calls.specs.Lending.{leavesOf};
 ghost use Rattle.calls.specs.Lending.Lending.{report};
-ghost use Rattle.calls.specs.Lending.Stored.{structured, updated, rolledBack};
-
-// A report of structure work, with both payloads as the work has left them.
-pub fn report_structure(
-    r: Record,
-    given: Reporting,
-    candidate: &mut [u8],
-    recovery: &mut [u8],
-    new: &[u8],
-    old: &[u8],
-) -> Stepped
-    ensures { λ s. ⌜ leaves (tells s) (now (candidate .exit) ∷ now (recovery .exit) ∷ [])
-        ≡ leavesOf r (report (structured (now (candidate .entry)) (now (recovery .entry)) (now (new .entry)) (now (old .entry)))
-        (given .ticket) (given .outcome)) ⌝ }
-{
-    let found = Findings::of(areas::is_sized(candidate.len()) & areas::is_sized(recovery.len()));
-    let stepped = step_reports::report_structure(r, found, given, new.len(), old.len());
-    let half = moves::payload(stepped, candidate, new);
-    moves::payload(half, recovery, old)
-}
+ghost use Rattle.calls.specs.Lending.Stored.{updated, rolledBack};
 
 // A report of an update, with the payload of the action number applied.
 pub fn report_update(r: Record, given: Reporting, table: &mut [u64], payload: u64) -> Stepped
@@ -37,7 +18,7 @@ pub fn report_update(r: Record, given: Reporting, table: &mut [u64], payload: u6
         ≡ leavesOf r (report (updated (now (table .entry)) payload) (given .ticket) (given .outcome)) ⌝ }
 {
     let found = Findings::of(batch::is_sized(table.len()));
-    let stepped = step_reports::report_update(r, found, given);
+    let stepped = step_updates::report_update(r, found, given);
     moves::store(stepped, table, r.applied, payload)
 }
 
@@ -54,6 +35,6 @@ pub fn report_rollback(r: Record, given: Reporting, table: &mut [u64], payload: 
         ≡ leavesOf r (report (rolledBack (now (table .entry)) payload) (given .ticket) (given .outcome)) ⌝ }
 {
     let found = Findings::of(batch::is_sized(table.len()));
-    let stepped = step_reports::report_rollback(r, found, given);
+    let stepped = step_undos::report_rollback(r, found, given);
     moves::store(stepped, table, last(r.entries), payload)
 }

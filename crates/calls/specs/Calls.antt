@@ -10,7 +10,9 @@ use Rattle.step_opens.specs.Opening.{openStep}
 use Rattle.step_begins.specs.Beginning.{beginStep, editStep}
 use Rattle.step_asks.specs.Asks.{askStructureStep, askUpdateStep}
 use Rattle.step_rollbacks.specs.Rollbacks.{askRollbackStep}
-use Rattle.step_reports.specs.Reports.{reportStructureStep, reportUpdateStep, reportRollbackStep}
+use Rattle.step_structure.specs.Structure.{reportStructureStep}
+use Rattle.step_updates.specs.Updates.{reportUpdateStep}
+use Rattle.step_undos.specs.Undos.{reportRollbackStep}
 use Rattle.step_ends.specs.Ending.{commitStep, refreshStep}
 use Rattle.step_recoveries.specs.Recovering.{recoverStep, recoverRetainedStep}
 use Rattle.step_stamps.specs.Stamping.{stampStep, checkStep}

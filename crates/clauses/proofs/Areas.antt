@@ -16,7 +16,7 @@ use Rattle.wholeness.specs.Whole.{whole}
 use Rattle.log.specs.Log.{sound}
 use Rattle.noting.specs.{Recorded.withLog, Through.leavesThrough}
 use Rattle.step_begins.specs.Beginning.{editOwn}
-use Rattle.step_reports.specs.{Done.onward, Done.advanced, Done.structureDone, Reports.reportStructureBars, Reports.reportStructureOwn}
+use Rattle.step_structure.specs.Structure.{onward, advanced, structureDone, reportStructureBars, reportStructureOwn}
 use Rattle.calls.specs.{Calls.Report, Calls.Call, Calls.step, Calls.AnyCall.calls, Lending.Stored.structured, Lending.Stored.updated, Lending.Stored.rolledBack, Lending.Lending}
 use Rattle.calls.specs.{Lending.callOf, Lending.fits, Lending.moved, Lending.leavesOf, Lending.Lending.begin, Lending.Lending.report, Lending.Lending.edit}
 use Rattle.demand_steps.proofs.{Own.own, Facts.Whole}

@@ -16,8 +16,10 @@ use Rattle.tickets.specs.Live as Tickets
 use Rattle.wholeness.specs.Whole.{whole}
 use Rattle.step_asks.specs.Asks.{askStructureOwn, askUpdateOwn}
 use Rattle.step_rollbacks.specs.Rollbacks.{turned, askRollbackOwn}
-use Rattle.step_reports.specs.Done.{leaving, structureDone, updateDone, rollbackDone}
-use Rattle.step_reports.specs.Reports.{reported, reportStructureOwn, reportUpdateBars, reportUpdateOwn, reportRollbackBars, reportRollbackOwn}
+use Rattle.reporting.specs.Reporting.{reported}
+use Rattle.step_structure.specs.Structure.{structureDone, reportStructureOwn}
+use Rattle.step_updates.specs.Updates.{updateDone, reportUpdateBars, reportUpdateOwn}
+use Rattle.step_undos.specs.Undos.{leaving, rollbackDone, reportRollbackBars, reportRollbackOwn}
 use Rattle.calls.specs.{Calls.step, Calls.Work.structure, Calls.Work.update, Calls.Work.rollback, Calls.Report.structured, Calls.Report.updated, Calls.Report.rolledBack}
 use Rattle.calls.specs.{Calls.Call.ask, Calls.Call.report}
 use Rattle.demand_steps.proofs.{Own.own, Moves.choice, Moves.turn}

@@ -11,7 +11,7 @@ use Rattle.record.specs.{Fields.top, Fields.spent, Fields.withPlace, declared.R
 use Rattle.tickets.specs.{Live.isLive, declared.Live.Live}
 use Rattle.tickets.specs.Live as Tickets
 use Rattle.wholeness.specs.Whole.{whole}
-use Rattle.step_reports.specs.{Done.advanced, Reports.storing}
+use Rattle.step_structure.specs.Structure.{advanced, storing}
 use Rattle.demand_steps.proofs.{Leaf.Apart, Facts.Calm, Facts.tests, Facts.byCase, Facts.Calm.on, Facts.Calm.off, Reading.whole-facts, Reading.apart-of, Testing.ranges}
 use Rattle.demand_steps.proofs.{Testing.right, Wholeness.left, Wholeness.successor-test, Tickets.onStructure, Moves.goes-up, Moves.goes-down, Moves.goes-up, Moves.goes-down}
 use Rattle.clauses.specs.Structure.{Stepping, Advances, Stepping, Advances}

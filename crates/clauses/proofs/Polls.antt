@@ -13,8 +13,8 @@ use Rattle.wholeness.specs.Whole.{whole}
 use Rattle.completeness.specs.Complete.{complete}
 use Rattle.step_asks.specs.Asks.{askUpdateOwn}
 use Rattle.step_rollbacks.specs.Rollbacks.{turned, askRollbackOwn}
-use Rattle.step_reports.specs.Done.{updateDone, leaving, rollbackDone}
-use Rattle.step_reports.specs.Reports.{reportUpdateBars, reportUpdateOwn, reportRollbackBars, reportRollbackOwn}
+use Rattle.step_updates.specs.Updates.{updateDone, reportUpdateBars, reportUpdateOwn}
+use Rattle.step_undos.specs.Undos.{leaving, rollbackDone, reportRollbackBars, reportRollbackOwn}
 use Rattle.calls.specs.{Calls.step, Calls.Work.update, Calls.Work.rollback, Calls.Report.updated, Calls.Report.rolledBack, Calls.Call.ask, Calls.Call.report}
 use Rattle.demand_steps.proofs.{Own.own, Reading.whole-facts, Testing.ranges, Wholeness.updates-test, Tickets.onUpdate, Tickets.onRollback}
 use Rattle.clauses.specs.{Keeping.gained, Keeping.SameStaged, Keeping.Framed, Polls.unfinished, Polls.UpdateClauses, Polls.RollbackClauses}

@@ -11,8 +11,10 @@ use Rattle.tickets.specs.Live as Tickets
 use Rattle.record.specs.declared.Outcome.the-variants as O
 use Rattle.wholeness.specs.{Whole.whole}
 use Rattle.gates.specs.{Gates.barring, Gates.longPayloads}
-use Rattle.step_reports.specs.Done.{structureDone, updateDone, rollbackDone}
-use Rattle.step_reports.specs.Reports.{storing, stale, reported, reportStructureOwn, reportUpdateOwn, reportRollbackOwn}
+use Rattle.reporting.specs.Reporting.{stale, reported}
+use Rattle.step_structure.specs.Structure.{structureDone, storing, reportStructureOwn}
+use Rattle.step_updates.specs.Updates.{updateDone, reportUpdateOwn}
+use Rattle.step_undos.specs.Undos.{rollbackDone, reportRollbackOwn}
 use Rattle.calls.specs.{Calls.Call, Calls.step, Calls.AnyCall.calls, Calls.Report.structured, Calls.Report.updated, Calls.Report.rolledBack, Calls.Call.report}
 use Rattle.demand_refusals.specs.Refusals.{returned}
 use Rattle.demand_refusals.proofs.ExactRefusals.{refusal-returns}

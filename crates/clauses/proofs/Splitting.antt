@@ -16,7 +16,7 @@ use Rattle.answers.specs.declared.Refusal.the-variants.{NotReady, Recovering}
 use Rattle.wholeness.specs.{Whole.whole}
 use Rattle.gates.specs.{Gates.Bar, Gates.barring}
 use Rattle.gates.proofs.Passing.{Clear}
-use Rattle.step_reports.specs.Reports.{reported}
+use Rattle.reporting.specs.Reporting.{reported}
 use Rattle.calls.specs.Calls.{Call, step}
 use Rattle.demand_steps.proofs.{Own.own, Own.whole-step, Facts.Whole, Classify.leaf, Preserve.preserve, Reading.whole-facts, Wholeness.whole-test}
 use Rattle.clauses.specs.{Keeping.gains, Polls.unfinished}

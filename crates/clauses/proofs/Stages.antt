@@ -12,7 +12,7 @@ use Rattle.tickets.specs.Live as Tickets
 use Rattle.step_opens.specs.Opening.{opening, openStep}
 use Rattle.step_begins.specs.Beginning.{begun}
 use Rattle.step_rollbacks.specs.Rollbacks.{turned}
-use Rattle.step_reports.specs.Reports.{storing}
+use Rattle.step_structure.specs.Structure.{storing}
 use Rattle.calls.specs.{Calls.Report, Calls.Call, Calls.Report.structured, Calls.Report.updated, Calls.Report.rolledBack}
 use Rattle.demand_steps.specs.Watching.{Item, Watch, isFor, sees, watch, unwatched}
 use Rattle.demand_steps.specs.Watching.Item.{settle, apply, undo}

@@ -10,7 +10,7 @@ use Rattle.tickets.specs.{Live.isLive}
 use Rattle.tickets.specs.Live as Tickets
 use Rattle.wholeness.specs.Whole.{whole}
 use Rattle.step_asks.specs.Asks.{askStructureOwn}
-use Rattle.step_reports.specs.{Done.structureDone, Reports.reportStructureBars, Reports.reportStructureOwn}
+use Rattle.step_structure.specs.Structure.{structureDone, reportStructureBars, reportStructureOwn}
 use Rattle.calls.specs.{Calls.step, Calls.Work.structure, Calls.Report.structured, Calls.Call.ask, Calls.Call.report}
 use Rattle.demand_steps.proofs.{Own.own, Reading.whole-facts, Reading.apart-of, Testing.ranges}
 use Rattle.clauses.specs.{Keeping.gained, Keeping.SameBatch, Keeping.Framed, Polls.unfinished, Structure.StructureClauses, Structure.Advances}

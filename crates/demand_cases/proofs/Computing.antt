@@ -22,8 +22,10 @@ use Rattle.step_opens.specs.Opening.{opening, openStep}
 use Rattle.step_begins.specs.Beginning.{firstPhase, begun, beginOwn, editOwn}
 use Rattle.step_asks.specs.Asks.{askStructureOwn, askUpdateOwn}
 use Rattle.step_rollbacks.specs.Rollbacks.{askRollbackOwn, turned}
-use Rattle.step_reports.specs.Done.{onward, advanced, structureDone, updateDone, least, leaving, rollbackDone}
-use Rattle.step_reports.specs.Reports.{reported, reportStructureOwn, reportUpdateOwn, reportRollbackOwn}
+use Rattle.reporting.specs.Reporting.{reported}
+use Rattle.step_structure.specs.Structure.{onward, advanced, structureDone, reportStructureOwn}
+use Rattle.step_updates.specs.Updates.{updateDone, reportUpdateOwn}
+use Rattle.step_undos.specs.Undos.{least, leaving, rollbackDone, reportRollbackOwn}
 use Rattle.step_ends.specs.Ending.{commitOwn, refreshOwn}
 use Rattle.step_recoveries.specs.Recovering.{unrestored, recoverOwn, recoverRetainedOwn}
 use Rattle.step_stamps.specs.Stamping.{stampStep, passes, checkStep}

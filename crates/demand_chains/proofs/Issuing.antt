@@ -22,8 +22,10 @@ use Rattle.answers.specs.declared.Answer.the-variants as A
 use Rattle.wholeness.specs.Whole.{whole}
 use Rattle.step_asks.specs.Asks.{askStructureOwn, askUpdateOwn}
 use Rattle.step_rollbacks.specs.Rollbacks.{askRollbackOwn, turned}
-use Rattle.step_reports.specs.Done.{structureDone, updateDone, rollbackDone}
-use Rattle.step_reports.specs.Reports.{reported, reportStructureOwn, reportUpdateOwn, reportRollbackOwn}
+use Rattle.reporting.specs.Reporting.{reported}
+use Rattle.step_structure.specs.Structure.{structureDone, reportStructureOwn}
+use Rattle.step_updates.specs.Updates.{updateDone, reportUpdateOwn}
+use Rattle.step_undos.specs.Undos.{rollbackDone, reportRollbackOwn}
 use Rattle.calls.specs.Calls.{Call, step}
 use Rattle.calls.specs.Calls.Work.{structure, update, rollback}
 use Rattle.calls.specs.Calls.Report.{structured, updated, rolledBack}

@@ -12,8 +12,7 @@ use Rattle.answers.specs.Answers.{said}
 use Rattle.record.specs.Given.Effect.{works}
 use Rattle.record.specs.Fields.{spent}
 use Rattle.record.specs.declared.Record.{Record}
-use Rattle.step_reports.specs.Done.{advanced}
-use Rattle.step_reports.specs.Reports.{storing}
+use Rattle.step_structure.specs.Structure.{advanced, storing}
 use Rattle.calls.specs.Calls.{Report}
 use Rattle.calls.specs.Calls.Report.{structured}
 use Rattle.demand_steps.specs.Watching.{Watch, isFor, lists, hearsReport}

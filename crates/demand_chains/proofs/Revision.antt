@@ -15,7 +15,7 @@ use Rattle.record.specs.Fields.{adopting}
 use Rattle.record.specs.declared.Record.{Record}
 use Rattle.step_begins.specs.Beginning.{begun}
 use Rattle.step_rollbacks.specs.Rollbacks.{turned}
-use Rattle.step_reports.specs.Done.{advanced}
+use Rattle.step_structure.specs.Structure.{advanced}
 use Rattle.record.specs.Given.{opening}
 use Rattle.calls.specs.Calls.{Report, Call}
 use Rattle.demand_chains.specs.Sending.{Sent, afterSent, heardSent}

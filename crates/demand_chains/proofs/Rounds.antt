@@ -14,7 +14,7 @@ use Rattle.answers.specs.Classes.StepAnswer.{ticket, waiting, failed, more, fin
 use Rattle.record.specs.Answers.{Told}
 use Rattle.record.specs.Fields.{top}
 use Rattle.record.specs.declared.Record.{Record}
-use Rattle.step_reports.specs.Done.{advanced}
+use Rattle.step_structure.specs.Structure.{advanced}
 use Rattle.calls.specs.Calls.{Call, step}
 use Rattle.calls.specs.Kinds.{kindOf, stepKind}
 use Rattle.demand_chains.specs.Chains.{after, heard}

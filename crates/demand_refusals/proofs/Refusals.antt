@@ -29,8 +29,10 @@ use Rattle.step_opens.specs.Opening.{unopened, openBars, openStep}
 use Rattle.step_begins.specs.Beginning.{beginBars, beginOwn, editBars, editOwn}
 use Rattle.step_asks.specs.Asks.{askStructureOwn, askUpdateOwn}
 use Rattle.step_rollbacks.specs.Rollbacks.{askRollbackOwn}
-use Rattle.step_reports.specs.Done.{onward, advanced, structureDone, updateDone, rollbackDone}
-use Rattle.step_reports.specs.Reports.{reported, storing, reportStructureBars, reportStructureOwn, reportUpdateBars, reportUpdateOwn, reportRollbackBars, reportRollbackOwn}
+use Rattle.reporting.specs.Reporting.{reported}
+use Rattle.step_structure.specs.Structure.{onward, advanced, structureDone, storing, reportStructureBars, reportStructureOwn}
+use Rattle.step_updates.specs.Updates.{updateDone, reportUpdateBars, reportUpdateOwn}
+use Rattle.step_undos.specs.Undos.{rollbackDone, reportRollbackBars, reportRollbackOwn}
 use Rattle.step_ends.specs.Ending.{commitBars, commitOwn, refreshBars, refreshOwn}
 use Rattle.step_recoveries.specs.Recovering.{unrestored, recoverBars, recoverOwn, recoverRetainedOwn}
 use Rattle.step_stamps.specs.Stamping.{stampStep, checkStep}

@@ -7,8 +7,7 @@ use Rattle.phases.specs.Phases.{hasSuccessor}
 use Rattle.areas.specs.Areas.{areaSize}
 use Rattle.record.specs.Fields.{top, spent}
 use Rattle.record.specs.declared.Record.{Record}
-use Rattle.step_reports.specs.Done.{advanced}
-use Rattle.step_reports.specs.Reports.{storing}
+use Rattle.step_structure.specs.Structure.{advanced, storing}
 use Rattle.record.specs.Given.{opening}
 use Rattle.record.specs.declared.Opening.{Opening}
 use Rattle.demand_steps.proofs.Leaf.{Apart, Left}

@@ -24,8 +24,10 @@ use Rattle.gates.proofs.Passing.{Fails}
 use Rattle.step_begins.specs.Beginning.{beginBars, beginOwn, editBars, editOwn}
 use Rattle.step_asks.specs.Asks.{askStructureOwn, askUpdateOwn}
 use Rattle.step_rollbacks.specs.Rollbacks.{askRollbackOwn}
-use Rattle.step_reports.specs.Done.{structureDone, updateDone, leaving, rollbackDone}
-use Rattle.step_reports.specs.Reports.{reported, storing, reportStructureBars, reportStructureOwn, reportUpdateBars, reportUpdateOwn, reportRollbackBars, reportRollbackOwn}
+use Rattle.reporting.specs.Reporting.{reported}
+use Rattle.step_structure.specs.Structure.{structureDone, storing, reportStructureBars, reportStructureOwn}
+use Rattle.step_updates.specs.Updates.{updateDone, reportUpdateBars, reportUpdateOwn}
+use Rattle.step_undos.specs.Undos.{leaving, rollbackDone, reportRollbackBars, reportRollbackOwn}
 use Rattle.step_ends.specs.Ending.{commitBars, commitOwn, refreshBars, refreshOwn}
 use Rattle.step_recoveries.specs.Recovering.{recoverBars, recoverOwn, recoverRetainedOwn}
 use Rattle.calls.specs.Calls.{Report, Call, stepWith, step}

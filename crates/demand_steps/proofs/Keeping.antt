@@ -9,7 +9,7 @@ use Rattle.answers.specs.Answers.{Said}
 use Rattle.record.specs.Given.Effect.{works}
 use Rattle.record.specs.Fields.{withPlace}
 use Rattle.record.specs.declared.Record.{Record}
-use Rattle.step_reports.specs.Done.{onward}
+use Rattle.step_structure.specs.Structure.{onward}
 use Rattle.calls.specs.Calls.{Report}
 use Rattle.demand_steps.specs.Watching.{Item, Watch, lists, hearsReport}
 

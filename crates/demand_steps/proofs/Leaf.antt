@@ -27,8 +27,9 @@ use Rattle.record.specs.Given.{opening}
 use Rattle.issuing.specs.Issuing.{issue}
 use Rattle.step_asks.specs.Asks.{started}
 use Rattle.step_rollbacks.specs.Rollbacks.{turned}
-use Rattle.step_reports.specs.Done.{advanced, raised, lowered}
-use Rattle.step_reports.specs.Reports.{storing}
+use Rattle.step_structure.specs.Structure.{advanced, storing}
+use Rattle.step_updates.specs.Updates.{raised}
+use Rattle.step_undos.specs.Undos.{lowered}
 use Rattle.step_ends.specs.Ending.{afterCommit}
 use Rattle.step_recoveries.specs.Recovering.{recoveredTo}
 use Rattle.calls.specs.Calls.{Call}

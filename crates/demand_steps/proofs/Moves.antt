@@ -10,7 +10,8 @@ use Rattle.choice.specs.Pick.{pick, _and_}
 use Rattle.phases.specs.Phases.{hasSuccessor, successor}
 use Rattle.record.specs.Fields.{withPlace}
 use Rattle.record.specs.declared.Record.{Record}
-use Rattle.step_reports.specs.Done.{onward, advanced, least}
+use Rattle.step_structure.specs.Structure.{onward, advanced}
+use Rattle.step_undos.specs.Undos.{least}
 use Rattle.demand_steps.proofs.Leaf.{Apart, Updates, Goes}
 use Rattle.demand_steps.proofs.Leaf.Goes.{last, more}
 use Rattle.demand_steps.proofs.Facts.{Stage, tests, byCase}

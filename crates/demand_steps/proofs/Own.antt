@@ -19,7 +19,9 @@ use Rattle.gates.proofs.Passing.{passed, Clear, Fails, fails}
 use Rattle.step_begins.specs.Beginning.{beginOwn, editOwn}
 use Rattle.step_asks.specs.Asks.{askStructureOwn, askUpdateOwn}
 use Rattle.step_rollbacks.specs.Rollbacks.{askRollbackOwn}
-use Rattle.step_reports.specs.Reports.{reportStructureOwn, reportUpdateOwn, reportRollbackOwn}
+use Rattle.step_structure.specs.Structure.{reportStructureOwn}
+use Rattle.step_updates.specs.Updates.{reportUpdateOwn}
+use Rattle.step_undos.specs.Undos.{reportRollbackOwn}
 use Rattle.step_ends.specs.Ending.{commitOwn, refreshOwn}
 use Rattle.step_recoveries.specs.Recovering.{recoverOwn, recoverRetainedOwn}
 use Rattle.step_stamps.specs.Stamping.{saysStamping, saysChecked, stampOf, stampStep, passes, checkStep}

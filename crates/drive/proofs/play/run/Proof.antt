@@ -6,11 +6,11 @@ use Rattle.drive.proofs.play.run.Statement.{statement}
 use Rattle.drive.proofs.play.run.Tie as tie
 
 abbrev Inv-loop : tie.InvT-loop
-Inv-loop left₀ right₀ t₀ l₀ scratch₀ pairs₀ bytes₀ chunk₀ buffer₀ record₀ lent₀ place₀ written₀ number₀ left right t l scratch pairs bytes chunk buffer «record» lent place written number =
+Inv-loop line₀ chunk₀ buffer₀ scratch₀ pairs₀ left₀ right₀ t₀ l₀ record₀ lent₀ place₀ written₀ number₀ line chunk buffer scratch pairs left right t l «record» lent place written number =
     0 ≤ number
 
 abbrev μ-loop : tie.MeasureT-loop
-μ-loop left₀ right₀ t₀ l₀ scratch₀ pairs₀ bytes₀ chunk₀ buffer₀ record₀ lent₀ place₀ written₀ number₀ left right t l scratch pairs bytes chunk buffer «record» lent place written number =
+μ-loop line₀ chunk₀ buffer₀ scratch₀ pairs₀ left₀ right₀ t₀ l₀ record₀ lent₀ place₀ written₀ number₀ line chunk buffer scratch pairs left right t l «record» lent place written number =
     18446744073709551615 - number
 
 loop-less : tie.Need-loop-less Inv-loop μ-loop

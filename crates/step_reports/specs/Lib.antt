@@ -1,2 +1,0 @@
-pub mod Done
-pub mod Reports
