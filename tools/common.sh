@@ -29,6 +29,13 @@ build_oracle() { cargo build --release --offline --quiet --manifest-path oracle/
 # The kit's own loader, C library and emulator for this machine.
 kit_toolchain() { echo "$(dirname "$(dirname "$(readlink -f "$(command -v rt)")")")/on/$(uname -m)/toolchain"; }
 
+# How many checks `rt` starts at a time. It waits for all that it started together: with one more of them than there are cores, few cores
+# wait for the longest. No more than `rt` starts by itself where there are many cores, since each needs memory.
+jobs() {
+    local most=4 wanted=$(($(nproc) + 1))
+    echo "$((wanted < most ? wanted : most))"
+}
+
 # Makes a folder for temporary files and prints its name; whoever asks removes it. A check writes thousands of files to it, which on a
 # disk takes longer than many a proof: it stands in memory, where that has room and lets programs run.
 temporary_folder() {
@@ -36,12 +43,17 @@ temporary_folder() {
     if [ -z "${TMPDIR:-}" ] && [ -w "$memory" ] &&
         awk -v at="$memory" '$2 == at && $3 == "tmpfs" && $4 !~ /noexec/ { found = 1 } END { exit !found }' /proc/mounts &&
         [ "$(df --output=avail "$memory" | tail -n 1)" -ge "$room" ]; then
-        folder=$(mktemp -d -p "$memory")
+        folder=$(mktemp -d -p "$memory") || return
     else
-        folder=$(mktemp -d)
+        folder=$(mktemp -d) || return
     fi
     chmod 711 "$folder" # `rt` runs programs as nobody, from a folder below it
     echo "$folder"
+}
+
+# Removes such a folder. After an interrupt, checks that still run may write to it for a moment.
+remove_folder() { # NAME
+    rm -rf "$1" 2>/dev/null || { sleep 5 && rm -rf "$1"; }
 }
 
 machine() { echo "$(uname -m), $(nproc) cores, $(lscpu | sed -n 's/^Model name: *//p' | head -n 1)"; }
