@@ -49,10 +49,12 @@ fn read_on(chunk: &mut [u8; CHUNK], line: &mut [u8; LINE], place: Place) -> Plac
     next_line(chunk, line, place, b"drive: standard input")
 }
 
+// The command of a line. A slice is cut here, since an array that is lent cannot be.
 fn command_in(line: &[u8], length: usize) -> Command {
     read(front(line, length))
 }
 
+// The same of an array, which the loop lends: as a slice its length would have to be shown in each turn.
 fn command_of(line: &[u8; LINE], length: usize) -> Command {
     command_in(line, length)
 }
