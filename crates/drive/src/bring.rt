@@ -7,6 +7,8 @@ use super::held::SIDE;
 use super::held::part;
 use super::held::part_of_words;
 use super::held::within;
+use commands::Bringing;
+use commands::Payloads;
 use holdings::HELD_AREA;
 use holdings::HELD_LOG;
 use holdings::HELD_TABLE;
@@ -14,8 +16,6 @@ use record::Opening;
 use record::Record;
 use record::Reporting;
 use record::Stepped;
-use script::Bringing;
-use script::Payloads;
 use seeds::Seeded;
 use seeds::fill;
 use seeds::payload;
@@ -28,13 +28,13 @@ fn make(named: Payloads, scratch: &mut [u8]) {
 }
 
 fn open_on(given: Opening, l: &mut [u64], a: &mut [u8], new: &[u8]) -> Stepped {
-    if l.len() == 0 {
-        return transaction::open(given, a, new);
+    match l.len() {
+        0 => transaction::open(given, a, new),
+        _ => recorder::open(given, l, a, new),
     }
-    recorder::open(given, l, a, new)
 }
 
-fn open(
+pub(crate) fn open(
     given: Opening,
     named: Seeded,
     lent: Lent,
@@ -62,10 +62,10 @@ fn begin_on(
     old: &[u8],
     pairs: &[u64],
 ) -> Stepped {
-    if l.len() == 0 {
-        return transaction::begin_as(structural, record, c, r, t, new, old, pairs);
+    match l.len() {
+        0 => transaction::begin_as(structural, record, c, r, t, new, old, pairs),
+        _ => recorder::begin_as(structural, record, l, c, r, t, new, old, pairs),
     }
-    recorder::begin_as(structural, record, l, c, r, t, new, old, pairs)
 }
 
 fn begin(
@@ -120,10 +120,10 @@ fn report_on(
     new: &[u8],
     old: &[u8],
 ) -> Stepped {
-    if l.len() == 0 {
-        return transaction::report_structure(record, given, c, r, new, old);
+    match l.len() {
+        0 => transaction::report_structure(record, given, c, r, new, old),
+        _ => recorder::report_structure(record, given, l, c, r, new, old),
     }
-    recorder::report_structure(record, given, l, c, r, new, old)
 }
 
 fn report_structure(
@@ -148,7 +148,8 @@ fn report_structure(
 }
 
 pub(crate) fn bring(
-    which: Bringing,
+    named: Payloads,
+    call: Bringing,
     record: Record,
     lent: Lent,
     l: &mut [u64; HELD_LOG],
@@ -158,35 +159,27 @@ pub(crate) fn bring(
     scratch: &mut [u8; SIDE],
     pairs: &mut [u64; HELD_TABLE],
 ) -> Stepped {
-    match which {
-        Bringing::Open { opening, payload } => open(opening, payload, lent, l, left, scratch),
+    make(named, scratch);
+    match call {
         Bringing::Begin {
             structural,
-            payloads,
-            pairs: named,
-        } => {
-            make(payloads, scratch);
-            begin(
-                structural,
-                payloads,
-                named,
-                record,
-                lent,
-                l,
-                left,
-                right,
-                t,
-                scratch,
-                pairs,
-            )
-        }
-        Bringing::Edit(payloads) => {
-            make(payloads, scratch);
-            edit(payloads, record, lent, left, right, scratch)
-        }
-        Bringing::ReportStructure { given, payloads } => {
-            make(payloads, scratch);
-            report_structure(given, payloads, record, lent, l, left, right, scratch)
+            pairs: actions,
+        } => begin(
+            structural,
+            named,
+            actions,
+            record,
+            lent,
+            l,
+            left,
+            right,
+            t,
+            scratch,
+            pairs,
+        ),
+        Bringing::Edit => edit(named, record, lent, left, right, scratch),
+        Bringing::ReportStructure(given) => {
+            report_structure(given, named, record, lent, l, left, right, scratch)
         }
     }
 }

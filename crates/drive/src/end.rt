@@ -7,19 +7,21 @@ use super::held::THIRD;
 use super::held::part;
 use super::held::part_of_words;
 use super::held::within;
+use super::telling::Told;
+use commands::Ending;
+use commands::Marking;
 use copies::copy_bytes;
 use holdings::HELD_LOG;
+use mark_replies::of_mark;
 use record::Record;
 use record::Stepped;
-use script::Ending;
-use script::Marking;
 use status::Marked;
 
 fn commit_on(record: Record, l: &mut [u64], a: &mut [u8], c: &mut [u8]) -> Stepped {
-    if l.len() == 0 {
-        return transaction::commit(record, a, c);
+    match l.len() {
+        0 => transaction::commit(record, a, c),
+        _ => recorder::commit(record, l, a, c),
     }
-    recorder::commit(record, l, a, c)
 }
 
 fn commit(record: Record, lent: Lent, l: &mut [u64], left: &mut [u8], right: &mut [u8]) -> Stepped {
@@ -31,7 +33,8 @@ fn commit(record: Record, lent: Lent, l: &mut [u64], left: &mut [u8], right: &mu
     )
 }
 
-fn recover_on(
+// A recovery from a snapshot in the exchange area, or a refresh, which is lent the same.
+fn snapshot_on(
     refreshing: bool,
     record: Record,
     length: usize,
@@ -39,20 +42,20 @@ fn recover_on(
     a: &mut [u8],
     x: &mut [u8],
 ) -> Stepped {
-    if refreshing {
-        if l.len() == 0 {
-            return transaction::refresh(record, a, x, length);
-        }
-        return recorder::refresh(record, l, a, x, length);
-    }
     if l.len() == 0 {
-        return transaction::recover(record, a, x, length);
+        if refreshing {
+            transaction::refresh(record, a, x, length)
+        } else {
+            transaction::recover(record, a, x, length)
+        }
+    } else if refreshing {
+        recorder::refresh(record, l, a, x, length)
+    } else {
+        recorder::recover(record, l, a, x, length)
     }
-    recorder::recover(record, l, a, x, length)
 }
 
-// A recovery from a snapshot in the exchange area, or a refresh, which is lent the same.
-fn recover(
+fn snapshot(
     refreshing: bool,
     record: Record,
     length: usize,
@@ -61,7 +64,7 @@ fn recover(
     left: &mut [u8],
     right: &mut [u8],
 ) -> Stepped {
-    recover_on(
+    snapshot_on(
         refreshing,
         record,
         length,
@@ -72,10 +75,10 @@ fn recover(
 }
 
 fn retained_on(record: Record, l: &mut [u64], a: &mut [u8], r: &[u8], x: &mut [u8]) -> Stepped {
-    if l.len() == 0 {
-        return transaction::recover_retained(record, a, r, x);
+    match l.len() {
+        0 => transaction::recover_retained(record, a, r, x),
+        _ => recorder::recover_retained(record, l, a, r, x),
     }
-    recorder::recover_retained(record, l, a, r, x)
 }
 
 // The recovery area is read from a copy in scratch, since it stands on one side with the accepted one.
@@ -108,18 +111,25 @@ pub(crate) fn end(
 ) -> Stepped {
     match which {
         Ending::Commit => commit(record, lent, l, left, right),
-        Ending::Recover(length) => recover(false, record, length, lent, l, left, right),
         Ending::RecoverRetained => recover_retained(record, lent, l, left, right, scratch),
-        Ending::Refresh(length) => recover(true, record, length, lent, l, left, right),
+        Ending::Snapshot { refreshing, length } => {
+            snapshot(refreshing, record, length, lent, l, left, right)
+        }
     }
 }
 
-pub(crate) fn mark(which: Marking, lent: Lent, left: &[u8], right: &mut [u8]) -> Marked {
-    let g = within(left, THIRD, lent.groups);
-    let s = part(right, THIRD, lent.status);
+fn mark_on(which: Marking, g: &[u8], s: &mut [u8]) -> Marked {
     match which {
         Marking::Link { id, domain } => status::link(g, s, id, domain),
         Marking::Initialize(id) => status::initialize(g, s, id),
         Marking::Cancel(id) => status::cancel(g, s, id),
     }
+}
+
+pub(crate) fn mark(which: Marking, lent: Lent, left: &[u8], right: &mut [u8]) -> Told {
+    Told::Reply(of_mark(mark_on(
+        which,
+        within(left, THIRD, lent.groups),
+        part(right, THIRD, lent.status),
+    )))
 }

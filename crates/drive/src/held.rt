@@ -1,10 +1,10 @@
 // What the driver holds, and how much of it is lent. A call can be lent parts of two arrays, but not two parts of one, so the areas stand
 // on two sides: `left` holds the accepted area, the recovery area and the groups, `right` the candidate area, the exchange area and the
 // status, each side in this order. No call needs two of one side, but for recovering from the retained payload, which reads a copy.
+use commands::Command;
 use holdings::Area;
 use holdings::HELD_AREA;
 use holdings::HELD_MARKS;
-use script::Preparing;
 use transaction::AREA;
 use transaction::TABLE;
 
@@ -45,16 +45,11 @@ impl Lent {
         }
     }
 
-    // What is lent after a command that sets it, or leaves it.
-    pub(crate) fn after(self, which: Preparing) -> Lent {
-        match which {
-            Preparing::Lend { area, count } => self.lending(area, count),
-            _ => self,
-        }
-    }
-
-    // The same but for one area.
-    fn lending(mut self, area: Area, count: usize) -> Lent {
+    // What is lent after a command: the same, but for the area that it names where it is `lend`.
+    pub(crate) fn after(mut self, command: Command) -> Lent {
+        let Command::Lend { area, count } = command else {
+            return self;
+        };
         match area {
             Area::Accepted => self.accepted = count,
             Area::Candidate => self.candidate = count,

@@ -33,13 +33,12 @@ A payload P is LENGTH:SEED, words W are COUNT:SEED; an area B is a, c, r, x, t, 
 fn asks_for_help() -> bool {
     let mut word = [0u8; 5];
     let length = os::arg(1, &mut word);
-    if os::arg_count() != 2 {
-        return false;
-    }
-    if length != 4 {
-        return false;
-    }
-    (word[0] == b'h') & (word[1] == b'e') & (word[2] == b'l') & (word[3] == b'p')
+    (os::arg_count() == 2)
+        & (length == 4)
+        & (word[0] == b'h')
+        & (word[1] == b'e')
+        & (word[2] == b'l')
+        & (word[3] == b'p')
 }
 
 fn main() {

@@ -1,24 +1,23 @@
 // The lines that answer a command, put into a buffer of which the first `written` bytes wait. It answers how many wait now.
 use super::play::CHUNK;
-use super::telling::After;
 use super::telling::Told;
 use digest_lines::put_digests;
 use lines::put_line;
 use printing::put_record;
 use printing::put_reply;
+use record::Record;
 
 // More than the longest answer has, which is that of `show`.
 pub(crate) const ROOM: usize = 1000;
 
-// The answer to the line of this number.
-pub(crate) fn put_after(
+// The answer to the line of this number, which left this record.
+pub(crate) fn put_told(
     buffer: &mut [u8; CHUNK],
     written: usize,
-    after: After,
+    told: Told,
+    record: Record,
     line: u64,
 ) -> usize {
-    let record = after.record;
-    let told = after.told;
     match told {
         Told::Nothing => written,
         Told::Bad => put_line(buffer, written, b"?", &[line]),

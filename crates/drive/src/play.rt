@@ -1,33 +1,32 @@
 // Running a script, line after line, and what each command is handed of what the driver holds: both sides of bytes, the table t and the
 // log l.
 use super::bring::bring;
+use super::bring::open;
 use super::end::end;
 use super::end::mark;
 use super::held::Lent;
 use super::held::SIDE;
 use super::output::ROOM;
-use super::output::put_after;
-use super::prepare::settle;
-use super::prepare::write;
-use super::show::digests;
-use super::telling::After;
+use super::output::put_told;
+use super::prepare::fill_exchange;
+use super::prepare::put;
+use super::show::show;
 use super::telling::Told;
-use super::telling::after_call;
-use super::telling::leaving;
 use super::work::work;
+use answers::Answer;
+use commands::Command;
+use commands::Planning;
 use console::Place;
 use console::flush_before;
 use console::next_line;
 use console::start;
 use holdings::HELD_LOG;
 use holdings::HELD_TABLE;
-use mark_replies::of_mark;
 use record::Opening;
 use record::Record;
-use replies::Reply;
-use script::Command;
+use record::Stepped;
+use replies::of_answer;
 use script::LONGEST;
-use script::Planning;
 use script::read;
 use stamp_replies::of_check;
 use stamp_replies::of_stamp;
@@ -67,26 +66,40 @@ fn first_record() -> Record {
 }
 
 // Stamps and their checks.
-fn plan(which: Planning, record: Record) -> Reply {
+fn plan(which: Planning, record: Record) -> Told {
     match which {
-        Planning::Stamp(domain) => of_stamp(transaction::stamp(record, domain)),
-        Planning::Check { domain, stamp } => of_check(transaction::check(record, domain, stamp)),
+        Planning::Stamp(domain) => Told::Reply(of_stamp(transaction::stamp(record, domain))),
+        Planning::Check { domain, stamp } => {
+            Told::Reply(of_check(transaction::check(record, domain, stamp)))
+        }
     }
 }
 
-// What is told of the commands that are lent nothing.
-fn plain(command: Command, record: Record) -> Told {
+// What is told of a command that is lent nothing more: of a call of the transaction, its answer.
+fn plain(command: Command, stepped: Stepped) -> Told {
+    let record = stepped.state;
+    let answer = stepped.answer;
     match command {
+        Command::Open {
+            opening: _,
+            payload: _,
+        }
+        | Command::Bring {
+            payloads: _,
+            call: _,
+        }
+        | Command::Work(_)
+        | Command::End(_) => Told::Reply(of_answer(answer)),
+        Command::Plan(which) => plan(which, record),
         Command::Bad => Told::Bad,
-        Command::Plan(which) => Told::Reply(plan(which, record)),
         _ => Told::Nothing,
     }
 }
 
-// What is told of the commands that are no calls of the transaction, and what they do to what is held.
-fn aside(
+// What is told of a command, and what those that are no calls of the transaction do to what is held.
+fn tell(
     command: Command,
-    record: Record,
+    stepped: Stepped,
     lent: Lent,
     left: &mut [u8; SIDE],
     right: &mut [u8; SIDE],
@@ -94,33 +107,28 @@ fn aside(
     l: &mut [u64; HELD_LOG],
 ) -> Told {
     match command {
-        Command::Show => Told::Shown(digests(left, right, t, l)),
-        Command::Mark(which) => Told::Reply(of_mark(mark(which, lent, left, right))),
-        Command::Prepare(which) => {
-            write(which, left, right, t, l);
-            Told::Nothing
-        }
-        _ => plain(command, record),
-    }
-}
-
-// What is lent after a command.
-fn lent_after(command: Command, lent: Lent) -> Lent {
-    match command {
-        Command::Prepare(which) => lent.after(which),
-        _ => lent,
+        Command::Show => show(left, right, t, l),
+        Command::Mark(which) => mark(which, lent, left, right),
+        Command::Put { area, at, value } => put(area, at, value, left, right, t, l),
+        Command::Fill(named) => fill_exchange(right, named),
+        _ => plain(command, stepped),
     }
 }
 
 // The record after a command that is no call of the transaction.
-fn kept(command: Command, record: Record) -> Record {
-    match command {
-        Command::Prepare(which) => settle(which, record),
-        _ => record,
+fn keep(command: Command, record: Record) -> Stepped {
+    let mut kept = record;
+    if let Command::Record(given) = command {
+        kept = given;
+    }
+    Stepped {
+        answer: Answer::Finished,
+        state: kept,
     }
 }
 
-// One command, over all that is held, and scratch for the payloads and words that it names.
+// The call of a command, over what it is lent, and scratch for the payloads and words that it names; any other command has no answer, and
+// leaves the record that it gives or the one that was.
 fn perform(
     command: Command,
     record: Record,
@@ -131,33 +139,40 @@ fn perform(
     l: &mut [u64; HELD_LOG],
     scratch: &mut [u8; SIDE],
     pairs: &mut [u64; HELD_TABLE],
-) -> After {
+) -> Stepped {
     match command {
-        Command::Bring(which) => {
-            after_call(bring(which, record, lent, l, left, right, t, scratch, pairs))
-        }
-        Command::Work(which) => after_call(work(which, record, lent, l, t)),
-        Command::End(which) => after_call(end(which, record, lent, l, left, right, scratch)),
-        _ => leaving(
-            kept(command, record),
-            aside(command, record, lent, left, right, t, l),
+        Command::Open { opening, payload } => open(opening, payload, lent, l, left, scratch),
+        Command::Bring { payloads, call } => bring(
+            payloads,
+            call,
+            record,
+            lent,
+            l,
+            left,
+            right,
+            t,
+            scratch,
+            pairs,
         ),
+        Command::Work(which) => work(which, record, lent, l, t),
+        Command::End(which) => end(which, record, lent, l, left, right, scratch),
+        _ => keep(command, record),
     }
 }
 
-// Line after line, until nothing is left to read; all that waited has been written out then. What the calls work on is held here, and
-// the rest is lent: room for a line, for what is read and what waits to be written, and for payloads and words that a line names.
-fn run(
-    line: &mut [u8; LINE],
-    chunk: &mut [u8; CHUNK],
-    buffer: &mut [u8; CHUNK],
-    scratch: &mut [u8; SIDE],
-    pairs: &mut [u64; HELD_TABLE],
-) {
+// Runs the script on standard input, line after line, until nothing is left to read; all that waited has been written out then. Here is
+// all that the driver holds, and room: for what is read, a line of it, what waits to be written, and the payloads and words that a line
+// names.
+pub(crate) fn play() {
     let mut left = [0u8; SIDE];
     let mut right = [0u8; SIDE];
     let mut t = [0u64; HELD_TABLE];
     let mut l = [0u64; HELD_LOG];
+    let mut scratch = [0u8; SIDE];
+    let mut pairs = [0u64; HELD_TABLE];
+    let mut line = [0u8; LINE];
+    let mut chunk = [0u8; CHUNK];
+    let mut buffer = [0u8; CHUNK];
     let mut record = first_record();
     let mut lent = Lent::first();
     let mut place = start();
@@ -166,13 +181,13 @@ fn run(
     while number < u64::MAX {
         number += 1;
         let due = place.at == place.filled;
-        written = write_on(buffer, written, due);
-        place = read_on(chunk, line, place);
+        written = write_on(&buffer, written, due);
+        place = read_on(&mut chunk, &mut line, place);
         if place.ended & (place.length == 0) {
             return;
         }
-        let command = command_of(line, place.length);
-        let after = perform(
+        let command = command_of(&line, place.length);
+        let stepped = perform(
             command,
             record,
             lent,
@@ -180,22 +195,20 @@ fn run(
             &mut right,
             &mut t,
             &mut l,
-            scratch,
-            pairs,
+            &mut scratch,
+            &mut pairs,
         );
-        record = after.record;
-        lent = lent_after(command, lent);
-        written = put_after(buffer, written, after, number);
+        let told = tell(
+            command,
+            stepped,
+            lent,
+            &mut left,
+            &mut right,
+            &mut t,
+            &mut l,
+        );
+        record = stepped.state;
+        lent = lent.after(command);
+        written = put_told(&mut buffer, written, told, record, number);
     }
-}
-
-// Runs the script on standard input.
-pub(crate) fn play() {
-    run(
-        &mut [0u8; LINE],
-        &mut [0u8; CHUNK],
-        &mut [0u8; CHUNK],
-        &mut [0u8; SIDE],
-        &mut [0u64; HELD_TABLE],
-    );
 }

@@ -1,14 +1,13 @@
-// The commands that set what is held and lent: what is lent from here on, one element, a payload in the exchange area, the record.
+// The commands that set what is held: one element, lent or not, and a payload in the exchange area.
 use super::held::SECOND;
 use super::held::SIDE;
 use super::held::THIRD;
 use super::held::part;
+use super::telling::Told;
 use holdings::Area;
 use holdings::HELD_AREA;
 use holdings::HELD_LOG;
 use holdings::HELD_TABLE;
-use record::Record;
-use script::Preparing;
 use seeds::Seeded;
 use seeds::fill;
 
@@ -37,8 +36,7 @@ fn start(area: Area) -> usize {
     }
 }
 
-// `put`: one element of an area, lent or not.
-fn put(
+pub(crate) fn put(
     area: Area,
     at: usize,
     value: u64,
@@ -46,38 +44,17 @@ fn put(
     right: &mut [u8; SIDE],
     t: &mut [u64; HELD_TABLE],
     l: &mut [u64; HELD_LOG],
-) {
+) -> Told {
     match area {
         Area::Accepted | Area::Recovery | Area::Groups => put_byte(left, start(area), at, value),
         Area::Candidate | Area::Exchange | Area::Status => put_byte(right, start(area), at, value),
         Area::Table => put_word(t, at, value),
         Area::Log => put_word(l, at, value),
     }
+    Told::Nothing
 }
 
-fn fill_exchange(right: &mut [u8], named: Seeded) {
+pub(crate) fn fill_exchange(right: &mut [u8], named: Seeded) -> Told {
     fill(part(right, SECOND, HELD_AREA), named);
-}
-
-// What a command writes to what is held.
-pub(crate) fn write(
-    which: Preparing,
-    left: &mut [u8; SIDE],
-    right: &mut [u8; SIDE],
-    t: &mut [u64; HELD_TABLE],
-    l: &mut [u64; HELD_LOG],
-) {
-    match which {
-        Preparing::Put { area, at, value } => put(area, at, value, left, right, t, l),
-        Preparing::Fill(named) => fill_exchange(right, named),
-        _ => {}
-    }
-}
-
-// The record that a command leaves: the one that it gives, if it gives one.
-pub(crate) fn settle(which: Preparing, record: Record) -> Record {
-    match which {
-        Preparing::Record(given) => given,
-        _ => record,
-    }
+    Told::Nothing
 }

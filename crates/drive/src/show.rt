@@ -2,14 +2,15 @@
 use super::held::SECOND;
 use super::held::THIRD;
 use super::held::within;
+use super::telling::Told;
 use digest_lines::Digests;
 use digests::digest;
 use digests::digest_words;
 use holdings::HELD_AREA;
 use holdings::HELD_MARKS;
 
-pub(crate) fn digests(left: &[u8], right: &[u8], table: &[u64], log: &[u64]) -> Digests {
-    Digests {
+pub(crate) fn show(left: &[u8], right: &[u8], table: &[u64], log: &[u64]) -> Told {
+    Told::Shown(Digests {
         accepted: digest(within(left, 0, HELD_AREA)),
         candidate: digest(within(right, 0, HELD_AREA)),
         recovery: digest(within(left, SECOND, HELD_AREA)),
@@ -18,5 +19,5 @@ pub(crate) fn digests(left: &[u8], right: &[u8], table: &[u64], log: &[u64]) -> 
         log: digest_words(log),
         groups: digest(within(left, THIRD, HELD_MARKS)),
         status: digest(within(right, THIRD, HELD_MARKS)),
-    }
+    })
 }

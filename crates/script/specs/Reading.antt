@@ -8,8 +8,8 @@ use lib.ListN.{length, getD}
 use Rattle.choice.specs.Pick.{pick}
 use Rattle.text.specs.Writing.{newlineByte}
 use Rattle.templates.specs.Finding.{firstFitting}
-use Rattle.script.specs.declared.commands.Command.{Command}
-use Rattle.script.specs.declared.commands.Command.the-variants.{Nothing, Bad}
+use Rattle.commands.specs.declared.Command.{Command}
+use Rattle.commands.specs.declared.Command.the-variants.{Nothing, Bad}
 
 -- the bytes of a text, and of texts with a newline after each
 unfoldable pub bytesOf : String → List ℕ

@@ -1,15 +1,58 @@
-// A line of a script as a typed command. Nothing here reads or writes a file: whoever runs scripts reads lines and holds what the
-// commands speak of. Every number of a command that `read` gives is in its range, by the code; no contract says so.
-mod commands;
-mod reading;
+// A line of a script as a typed command: the first template that it fits says which by its key, the byte before it. Nothing here reads
+// or writes a file: whoever runs scripts reads lines and holds what the commands speak of.
+use commands::Command;
+use commands::of_key;
+use templates::first_fitting;
+ghost use mathlib.Core.Path.{_≡_};
+ghost use Rattle.script.specs.Reading.{readAs};
 
-pub use commands::Bringing;
-pub use commands::Command;
-pub use commands::Ending;
-pub use commands::Marking;
-pub use commands::Payloads;
-pub use commands::Planning;
-pub use commands::Preparing;
-pub use commands::Working;
-pub use reading::LONGEST;
-pub use reading::read;
+// The most bytes that a line may have, without its newline.
+pub const LONGEST: usize = 1000;
+
+// The command of a line. An empty line and a comment say nothing, however long.
+pub fn read(line: &[u8]) -> Command
+    ensures { λ c. ⌜ c ≡ readAs (now (line .entry)) c ⌝ }
+{
+    if line.len() == 0 {
+        return Command::Nothing;
+    }
+    if line[0] == b'#' {
+        return Command::Nothing;
+    }
+    if LONGEST < line.len() {
+        return Command::Bad;
+    }
+    let found = first_fitting(
+        line,
+        b".show
+llend B N
+pput B N N
+ffill L:S
+=record N N N N N F U U U D D D F K N
+oopen N N L:S
+bbegin L:S L:S C:S
+Bbegin-structural L:S L:S C:S
+eedit L:S L:S
+Sreport-structure N O N L:S L:S
+1ask-structure
+2ask-update
+3ask-rollback
+Ureport-update N O N N
+Vreport-rollback N O N N
+ccommit
+rrecover N
+Rrecover-retained
+nrefresh N
+sstamp N
+?check N N N
+Llink N F
+Iinitialize N
+Ccancel N
+",
+    );
+    if !found.found {
+        return Command::Bad;
+    }
+    let numbers = found.numbers;
+    of_key(found.key, numbers)
+}

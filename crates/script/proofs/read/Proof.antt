@@ -1,12 +1,12 @@
--- `script::reading::read` meets its contract. Assumes nothing.
+-- `script::read` meets its contract. Assumes nothing.
 use mathlib.Core.Path.{refl, sym, ap, _∙_}
 use borrow.Author.Needs.{needs}
 use borrow.Author.Tests.{eq-eqb, ne-eqb, lt-ltb, le-ltb, not-true, not-false}
 use Rattle.choice.proofs.Picks.{yes, no}
 use Rattle.script.specs.Reading.{bytesOf, linesOf, templates, readAs}
 use Rattle.templates.specs.declared.Found.{Found}
-use Rattle.script.proofs.reading.read.Statement.{statement}
-use Rattle.script.proofs.reading.read.Tie as tie
+use Rattle.script.proofs.read.Statement.{statement}
+use Rattle.script.proofs.read.Tie as tie
 
 returns : tie.Need-returns
 unfolding readAs
