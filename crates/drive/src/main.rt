@@ -29,24 +29,12 @@ A payload P is LENGTH:SEED, words W are COUNT:SEED; an area B is a, c, r, x, t, 
     );
 }
 
-// Whether the one argument is `help`.
-fn asks_for_help() -> bool {
-    let mut word = [0u8; 5];
-    let length = os::arg(1, &mut word);
-    (os::arg_count() == 2)
-        & (length == 4)
-        & (word[0] == b'h')
-        & (word[1] == b'e')
-        & (word[2] == b'l')
-        & (word[3] == b'p')
-}
-
 fn main() {
     if os::arg_count() < 2 {
         play::play();
         return;
     }
-    if asks_for_help() {
+    if console::asks_for_help() {
         print_usage(STDOUT_FILENO);
         return;
     }
