@@ -8,10 +8,10 @@ use borrow.Author.Tests.{eq-eqb, le-leb, leb-false, not-true, not-false}
 use Rattle.choice.specs.Pick.{pick, _and_, _or_}
 use Rattle.choice.proofs.{Picks.picked, Tests.tests, Tests.never, Tests.both, Tests.neither, Tests.join}
 use Rattle.answers.specs.{Classes.refused, Classes.Class.performed, Answers.said, declared.Refusal.Refusal}
-use Rattle.status.specs.{declared.StatusCall.StatusCall, declared.StatusCall.the-variants.Initialize, declared.Entry.Entry}
-use Rattle.status.specs.Status.{Marks, leavesMarks, groupLive, groupSettled, markLinked, markCancelled, markInitialized, markFinished, markMost, has, with, bytesSound, entryOf}
-use Rattle.status.specs.Status.{put, marking, marksOf}
-use Rattle.status.specs.declared.Entry.the-variants.{At, No}
+use Rattle.status_bits.specs.{declared.StatusCall.StatusCall, declared.StatusCall.the-variants.Initialize}
+use Rattle.status_bits.specs.Bits.{markLinked, markCancelled, markInitialized, markFinished, markMost, has, with}
+use Rattle.status.specs.Status.{Marks, Entry, leavesMarks, bytesSound, entryOf, put, marking, marksOf}
+use Rattle.status.specs.Status.Entry.{At, No}
 use Rattle.demand_steps.proofs.Testing.{right}
 use Rattle.clauses.specs.Status.{Place, MarkClauses, Initializes, Cancels}
 use Rattle.clauses.proofs.Splitting.{clash}

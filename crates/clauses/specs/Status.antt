@@ -6,8 +6,9 @@ use mathlib.Core.List.{List}
 use mathlib.Core.Logic.{_≢_, _↔_}
 use lib.ListN.{length, getD}
 use Rattle.answers.specs.Classes.Class.{performed}
-use Rattle.status.specs.Status.{Marks, markLinked, markCancelled, markInitialized, markFinished, has, otherLengths, outside, bytesSound, allowed, next}
-use Rattle.status.specs.declared.StatusCall.{StatusCall}
+use Rattle.status_bits.specs.Bits.{markLinked, markCancelled, markInitialized, markFinished, has, allowed, next}
+use Rattle.status_bits.specs.declared.StatusCall.{StatusCall}
+use Rattle.status.specs.Status.{Marks, otherLengths, outside, bytesSound}
 
 -- where 6, 7 and the id's 13 are not given
 pub record Place (groups status : List ℕ) (id : ℕ) : Type 0 where

@@ -7,9 +7,8 @@ use mathlib.Core.List.{List}
 use lib.Dec.{eqb}
 use Rattle.choice.specs.Pick.{_and_, _or_}
 use Rattle.answers.specs.Classes.{numberOf, refused}
-use Rattle.status.specs.Status.{Marks, put, entryOf, marking, marksOf}
-use Rattle.status.specs.declared.Entry.{Entry}
-use Rattle.status.specs.declared.StatusCall.{StatusCall}
+use Rattle.status_bits.specs.declared.StatusCall.{StatusCall}
+use Rattle.status.specs.Status.{Marks, Entry, put, entryOf, marking, marksOf}
 use Rattle.demand_refusals.specs.Rows.{given, among, distinct, howMany}
 use Rattle.demand_refusals.specs.Marks.{statusRows, statusNumbers}
 use Rattle.demand_refusals.proofs.Rows.{View, Fits, row, last, around, under, over}

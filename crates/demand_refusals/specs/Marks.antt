@@ -4,8 +4,9 @@ use mathlib.Core.Bool.{not}
 use mathlib.Core.List.{List, [], _∷_}
 use lib.ListN.{getD}
 use Rattle.choice.specs.Pick.{_and_, _or_}
-use Rattle.status.specs.Status.{otherLengths, outside, bytesSound, allowed}
-use Rattle.status.specs.declared.StatusCall.{StatusCall}
+use Rattle.status_bits.specs.Bits.{allowed}
+use Rattle.status_bits.specs.declared.StatusCall.{StatusCall}
+use Rattle.status.specs.Status.{otherLengths, outside, bytesSound}
 use Rattle.demand_refusals.specs.Rows.{Row, _when_, otherwise}
 
 -- "equal lengths 1 to 256 ..; other lengths give 6. Ids 0 or past the end then give 13, before any byte is read. A group byte over 7, a

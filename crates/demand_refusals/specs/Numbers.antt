@@ -9,7 +9,7 @@ use Rattle.choice.specs.Pick.{_and_, _or_}
 use Rattle.answers.specs.Classes.{Class, refused, successful, granted, ticketed, taken, stepWritten}
 use Rattle.record.specs.declared.Beginning.{Beginning}
 use Rattle.record.specs.declared.Outcome.{Outcome}
-use Rattle.status.specs.Status.{groupLive, groupSettled, groupPending, markLinked, markCancelled, markInitialized, markFinished}
+use Rattle.status_bits.specs.Bits.{groupLive, groupSettled, groupPending, markLinked, markCancelled, markInitialized, markFinished}
 use Rattle.calls.specs.Calls.{Call}
 use Rattle.calls.specs.Calls.Work.{structure, update, rollback}
 use Rattle.calls.specs.Calls.Report.{structured, updated, rolledBack}

@@ -1,11 +1,11 @@
--- `status::with` meets its contract. Assumes nothing.
+-- `status_bits::with` meets its contract. Assumes nothing.
 use mathlib.Core.Path.{refl}
 use native.Mathlib.Omega.{arith}
 use Rattle.choice.proofs.Picks.{yes, no, told}
-use Rattle.status.specs.Status.{with}
+use Rattle.status_bits.specs.Bits.{with}
 use borrow.Author.Needs.{needs}
-use Rattle.status.proofs.with.Statement.{statement}
-use Rattle.status.proofs.with.Tie as tie
+use Rattle.status_bits.proofs.with.Statement.{statement}
+use Rattle.status_bits.proofs.with.Tie as tie
 
 add-result : tie.Need-add-result
 add-result c = omega (arith, c .before .before .pre .1 (told (c .before .has .ensures) (c .if1 .left)))

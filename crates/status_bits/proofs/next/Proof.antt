@@ -1,9 +1,9 @@
--- `status::next` meets its contract. Assumes nothing.
+-- `status_bits::next` meets its contract. Assumes nothing.
 use Rattle.choice.proofs.Tests.{tests}
-use Rattle.status.specs.Status.{has}
+use Rattle.status_bits.specs.Bits.{has}
 use borrow.Author.Needs.{needs}
-use Rattle.status.proofs.next.Statement.{statement}
-use Rattle.status.proofs.next.Tie as tie
+use Rattle.status_bits.proofs.next.Statement.{statement}
+use Rattle.status_bits.proofs.next.Tie as tie
 
 returns : tie.Need-returns
 returns c = simp (c .enum-told .given .1)

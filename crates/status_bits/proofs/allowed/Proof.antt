@@ -1,8 +1,8 @@
--- `status::allowed` meets its contract: the code is the definition. Assumes nothing.
+-- `status_bits::allowed` meets its contract: the code is the definition. Assumes nothing.
 use Rattle.choice.specs.Pick.{_and_}
 use borrow.Author.Needs.{needs}
-use Rattle.status.proofs.allowed.Statement.{statement}
-use Rattle.status.proofs.allowed.Tie as tie
+use Rattle.status_bits.proofs.allowed.Statement.{statement}
+use Rattle.status_bits.proofs.allowed.Tie as tie
 
 returns : tie.Need-returns
 unfolding _and_
