@@ -166,8 +166,9 @@ fn marking(key: u8, id: u64, flag: u64) -> Marking {
     }
 }
 
-// The command of a key, which is the byte before its template (script), with its numbers. They are in their ranges by the template, but
-// for those that go by the area, and the number of a ticket of kind 0: these are judged here.
+// The command of a key, which is the byte before its template (script), with its numbers; a key of no template is Bad. Numbers are in
+// their ranges by the template, but for those that go by the area, and the number of a ticket of kind 0: these are judged here. So
+// every number of a command is in its range, by the code; no contract says so.
 pub fn of_key(key: u8, n: Numbers) -> Command {
     match key {
         b'.' => Command::Show,
@@ -180,6 +181,7 @@ pub fn of_key(key: u8, n: Numbers) -> Command {
         b'1' | b'2' | b'3' | b'U' | b'V' => Command::Work(working(key, n)),
         b'c' | b'r' | b'R' | b'n' => Command::End(ending(key, n[0] as usize)),
         b's' | b'?' => Command::Plan(planning(key, n)),
-        _ => Command::Mark(marking(key, n[0], n[1])),
+        b'L' | b'I' | b'C' => Command::Mark(marking(key, n[0], n[1])),
+        _ => Command::Bad,
     }
 }
