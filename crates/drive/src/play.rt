@@ -115,7 +115,7 @@ fn tell(
     }
 }
 
-// The record after a command that is no call of the transaction.
+// The record after a command that is no call of the transaction; the answer beside it is not told.
 fn keep(command: Command, record: Record) -> Stepped {
     let mut kept = record;
     if let Command::Record(given) = command {
