@@ -1,7 +1,7 @@
 //! The answers: their numbers, and which of them are refusals, are granted,
 //! are taken and are written to the log.
 //!
-//! Written from document 01 alone.
+//! Written from documents 01 and 02 alone.
 
 /// Why a call is refused, with the number of each refusal.
 #[derive(Clone, Copy, Debug, PartialEq, Eq)]
@@ -13,12 +13,14 @@ pub enum Refusal {
     Recovering = 5,
     BadArea = 6,
     Damaged = 7,
-    TooLong = 8,
     TooMany = 9,
     Stale = 10,
     Worn = 11,
     LogFull = 12,
     NoStatus = 13,
+    LongCandidate = 14,
+    LongRecovery = 15,
+    LongSnapshot = 16,
 }
 
 impl Refusal {

@@ -1,6 +1,6 @@
 //! Two fixed scripts: the boundary pairs, and all small records.
 //!
-//! Written from document 01 and the page on the driver's script alone.
+//! Written from documents 01 and 02 and the page on the driver's script alone.
 
 mod lines;
 mod logs;

@@ -1,7 +1,7 @@
-//! `oracle`: plays scripts of calls as document 01 says they answer, and makes
-//! such scripts.
+//! `oracle`: plays scripts of calls as documents 01 and 02 say they answer, and
+//! makes such scripts.
 //!
-//! Written from document 01 and the page on the driver's script alone.
+//! Written from those two and the page on the driver's script alone.
 
 mod answer;
 mod boundary;

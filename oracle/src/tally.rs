@@ -1,6 +1,6 @@
-//! A table of calls by answers, with the cells that document 01 allows.
+//! A table of calls by answers, with the cells that the documents allow.
 //!
-//! Written from document 01 alone.
+//! Written from documents 01 and 02 alone.
 
 use crate::answer::{Answer, Answered};
 use crate::model::{phase, About, Name, CALLS};
@@ -45,7 +45,7 @@ pub fn counted(name: Name, answered: &Answered) -> Column {
     }
 }
 
-/// The columns that document 01 allows a call.
+/// The columns that the documents allow a call.
 pub fn allowed(about: &About) -> BTreeSet<Column> {
     let mut columns: BTreeSet<Column> = about.answers().into_iter().map(column_of).collect();
     if about.name == Name::Check {

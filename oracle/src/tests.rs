@@ -3,6 +3,7 @@
 mod answers;
 mod cases;
 mod reaching;
+mod requests;
 mod scripts;
 mod shrinking;
 

@@ -1,11 +1,11 @@
--- Document 01, "What a call answers": the classes of answers with their numbers, and which of them are refusals, successful, granted,
--- tickets, taken and written. No other file tells answers apart by a number. Assumes nothing.
+-- Document 01, "What a call answers", and document 02, request 1: the classes of answers with their numbers, and which of them are
+-- refusals, successful, granted, tickets, taken and written. No other file tells answers apart by a number. Assumes nothing.
 use Prim.Native.Nat.{ℕ}
 use mathlib.Core.Bool.{Bool, true, false, _||_}
 use lib.Dec.{eqb}
 use Rattle.choice.specs.Pick.{_or_}
 use Rattle.answers.specs.declared.Refusal.{Refusal}
-use Rattle.answers.specs.declared.Refusal.the-variants.{Pending, Idle, Capacity, NotReady, Recovering, BadArea, Damaged, TooLong, TooMany, Stale, Worn, LogFull, NoStatus}
+use Rattle.answers.specs.declared.Refusal.the-variants.{Pending, Idle, Capacity, NotReady, Recovering, BadArea, Damaged, TooMany, Stale, Worn, LogFull, NoStatus, LongCandidate, LongRecovery, LongSnapshot}
 
 -- "step answers"
 pub data StepAnswer : Type 0 where
@@ -17,7 +17,7 @@ pub data Class : Type 0 where
   refusal : Refusal → Class
   stepping : StepAnswer → Class
 
--- the table's column "No."
+-- the table's column "No.", with request 1: "Split TooLong: 14 candidate, 15 recovery, 16 snapshot .. Number 8 is retired"
 abbrev pub refusalNumber : Refusal → ℕ
 refusalNumber Pending = 1
 refusalNumber Idle = 2
@@ -26,12 +26,14 @@ refusalNumber NotReady = 4
 refusalNumber Recovering = 5
 refusalNumber BadArea = 6
 refusalNumber Damaged = 7
-refusalNumber TooLong = 8
 refusalNumber TooMany = 9
 refusalNumber Stale = 10
 refusalNumber Worn = 11
 refusalNumber LogFull = 12
 refusalNumber NoStatus = 13
+refusalNumber LongCandidate = 14
+refusalNumber LongRecovery = 15
+refusalNumber LongSnapshot = 16
 
 abbrev pub stepNumber : StepAnswer → ℕ
 stepNumber ticket = 20
@@ -45,7 +47,7 @@ numberOf performed = 0
 numberOf (refusal why) = refusalNumber why
 numberOf (stepping s) = stepNumber s
 
--- "Numbers 1 to 13 are refusals"
+-- "Numbers 1 to 13 are refusals", and the three that TooLong is split into
 abbrev pub refused : Class → Bool
 refused performed = false
 refused (refusal why) = true

@@ -1,5 +1,5 @@
-// What calls answer: the answers with the numbers that document 01 gives them, and their classes: which are refusals, and which of an
-// ask or a report are written to the log.
+// What calls answer: the answers with the numbers that documents 01 and 02 give them, and their classes: which are refusals, and which
+// of an ask or a report are written to the log.
 ghost use mathlib.Core.Path.{_≡_};
 ghost use Rattle.answers.specs.Classes.{refusalNumber, refused, refusalWritten, stepWritten};
 ghost use Rattle.answers.specs.Answers.{says};
@@ -12,12 +12,14 @@ pub enum Refusal {
     Recovering,
     BadArea,
     Damaged,
-    TooLong,
     TooMany,
     Stale,
     Worn,
     LogFull,
     NoStatus,
+    LongCandidate,
+    LongRecovery,
+    LongSnapshot,
 }
 
 // Lengths and counts as they were, which a performed call gives back.
@@ -50,12 +52,14 @@ impl Refusal {
             Refusal::Recovering => 5,
             Refusal::BadArea => 6,
             Refusal::Damaged => 7,
-            Refusal::TooLong => 8,
             Refusal::TooMany => 9,
             Refusal::Stale => 10,
             Refusal::Worn => 11,
             Refusal::LogFull => 12,
             Refusal::NoStatus => 13,
+            Refusal::LongCandidate => 14,
+            Refusal::LongRecovery => 15,
+            Refusal::LongSnapshot => 16,
         }
     }
 

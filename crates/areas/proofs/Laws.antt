@@ -1,17 +1,30 @@
--- What callers use of `copied` and `exchanged`: what fits is copied, an area's whole length replaces it; and areas of the right size
--- are of one size. Assumes nothing.
+-- What callers use of `long`, `copied` and `exchanged`: a payload is too long exactly if it is over 4,096; what fits is copied, an
+-- area's whole length replaces it; and areas of the right size are of one size. Assumes nothing.
 use mathlib.Core.Path.{_≡_, refl, sym, ap, _∙_}
 use mathlib.Core.List.{List, [], _∷_, _++_, append-nil}
-use Prim.Native.Nat.{ℕ, _≤_}
+use Prim.Native.Nat.{ℕ, _≤_, _<_}
 use lib.ListN.{length, drop}
 use lib.Seq.{drop-length}
 use native.Mathlib.Omega.{arith}
-use borrow.Author.Tests.{le-ltb, eq-eqb, eqb-true}
-use mathlib.Core.Bool.{true}
+use borrow.Author.Tests.{le-ltb, ltb-true, ltb-false, eq-eqb, eqb-true}
+use mathlib.Core.Bool.{true, false}
 use Rattle.choice.specs.Pick.{_and_}
 use Rattle.choice.proofs.Picks.{yes, no}
 use Rattle.choice.proofs.Tests.{both, join}
-use Rattle.areas.specs.Areas.{sized, copied, exchanged}
+use Rattle.areas.specs.Areas.{areaSize, sized, long, copied, exchanged}
+
+module _ (n : ℕ) where
+  pub over : long n ≡ true → areaSize < n
+  unfolding long
+  over h = ltb-true _ _ h
+
+  pub within : long n ≡ false → n ≤ areaSize
+  unfolding long
+  within h = ltb-false _ _ h
+
+  pub not-over : n ≤ areaSize → long n ≡ false
+  unfolding long
+  not-over h = le-ltb _ _ h
 
 pub copied-fits : (s d : List ℕ) → length s ≤ length d → copied s d ≡ s ++ drop (length s) d
 unfolding copied

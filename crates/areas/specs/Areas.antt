@@ -13,7 +13,7 @@ areaSize = 4096
 unfoldable pub sized : List ℕ → Bool
 sized area = eqb (length area) areaSize
 
--- "a payload being the first 0 to 4,096"; TooLong is "a payload over 4,096"
+-- "a payload being the first 0 to 4,096"; too long is "a payload over 4,096"
 unfoldable pub long : ℕ → Bool
 long n = ltb areaSize n
 

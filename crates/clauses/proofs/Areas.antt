@@ -15,13 +15,13 @@ use Rattle.answers.specs.{Classes.refused, Classes.Class.performed}
 use Rattle.wholeness.specs.Whole.{whole}
 use Rattle.log.specs.Log.{sound}
 use Rattle.noting.specs.{Recorded.withLog, Through.leavesThrough}
-use Rattle.step_begins.specs.Beginning.{editOwn}
+use Rattle.step_begins.specs.Beginning.{editBars, editOwn}
 use Rattle.step_structure.specs.Structure.{onward, advanced, structureDone, reportStructureBars, reportStructureOwn}
 use Rattle.calls.specs.{Calls.Report, Calls.Call, Calls.step, Calls.AnyCall.calls, Lending.Stored.structured, Lending.Stored.updated, Lending.Stored.rolledBack, Lending.Lending}
 use Rattle.calls.specs.{Lending.callOf, Lending.fits, Lending.moved, Lending.leavesOf, Lending.Lending.begin, Lending.Lending.report, Lending.Lending.edit}
-use Rattle.demand_steps.proofs.{Own.own, Facts.Whole}
+use Rattle.demand_steps.proofs.{Own.own, Own.row, Facts.Whole}
 use Rattle.clauses.specs.{Lending.Stages, Lending.Holds, Lending.SameIdentities, Staging.Begun, Gaps.BeginAnswer, Gaps.Rejects, Recording.unlogged}
-use Rattle.clauses.proofs.{Splitting.by, Splitting.past, Splitting.outcomes, Splitting.facts-after, Splitting.on-step, Stagings.begin-answer, Stagings.begin-clauses, Lendings.lends}
+use Rattle.clauses.proofs.{Splitting.Kept, Splitting.by, Splitting.past, Splitting.outcomes, Splitting.facts-after, Splitting.on-step, Stagings.begin-answer, Stagings.begin-clauses, Lendings.lends}
 use Rattle.clauses.proofs.{Lendings.payload-copied, Lendings.pairs-copied, Recorder.fit, Recorder.carried-over}
 
 -- two payloads that were copied with their lengths, which fit, as the record afterwards is whole
@@ -100,7 +100,7 @@ module _ (r : Record) (m : r .revision ≤ top) (w : whole r ≡ true) where
     pub edit-areas : refused (leavesOf r (edit c o new old) .told .class) ≡ false → Stages new old (leavesOf r (edit c o new old))
     unfolding own editOwn
     edit-areas = replaced (edit c o new old) refl s refl (on-step r m w (Call.edit (length new) (length old)) Stores
-        (by Stores _ (λ e k i. never i) (λ e. by Stores _ (λ d k i. never i) (λ d k i. (refl, refl)))))
+        (row (Kept Stores) r (λ why k i. never i) (editBars r (length new) (length old)) (λ f k i. (refl, refl))))
 
     pub report-structure-areas : (k : ℕ) (x : Outcome) → refused (leavesOf r (report (structured c o new old) k x) .told .class) ≡ false →
         Stages new old (leavesOf r (report (structured c o new old) k x))

@@ -4,10 +4,11 @@ use Prim.Native.Nat.{ℕ, _+_, _≤_}
 use mathlib.Core.{Path._≡_, Path.refl, Path.ap, Bool.true, Bool.false, Bool.not, List.List, List.[], Logic._≢_, Logic._↔_}
 use native.Mathlib.Omega.{arith}
 use lib.Dec.{eqb}
-use borrow.Author.Tests.{eqb-true, ltb-true, ltb-false, le-ltb, not-true, not-false}
+use borrow.Author.Tests.{eqb-true, le-ltb, not-true, not-false}
 use Rattle.choice.specs.Pick.{pick, _or_}
 use Rattle.choice.proofs.{Picks.yes, Picks.no, Tests.tests, Tests.never, Tests.both, Tests.either, Tests.neither}
-use Rattle.areas.specs.Areas.{areaSize, long}
+use Rattle.areas.specs.Areas.{areaSize}
+use Rattle.areas.proofs.Laws.{over, within, not-over}
 use Rattle.record.specs.{Answers.Told, Answers.answer, Fields.top, declared.Record.Record}
 use Rattle.answers.specs.{Classes.Class, Classes.Class.refusal, declared.Answer.the-variants.Done, declared.Was.the-variants.Three}
 use Rattle.answers.specs.{declared.Refusal.the-variants.Idle, declared.Refusal.the-variants.NotReady}
@@ -115,9 +116,9 @@ module _ (r : Record) (m : r .revision ≤ top) (w : whole r ≡ true) where
 
   module _ (n : ℕ) where
     to-snapshot : RecoverAnswer r n (step r (recover n) .class) × RecoverClauses r n (step r (recover n))
-    unfolding own recoverOwn long unrestored
-    to-snapshot = recovers n (longSnapshot n []) (λ x. ltb-false _ _ (x .0), λ h. (le-ltb _ _ h, refl)) (recover n) refl (λ e₁ e₂. let y = neither e₂ in
-        (λ e. (RecoverAnswer.tooLong (not-false _ e₁) (omega (tests, y .0)) (not-false _ (y .1)) (ltb-true _ _ e), never), λ e₃. refl))
+    unfolding own recoverOwn unrestored
+    to-snapshot = recovers n (longSnapshot n []) (λ x. within n (x .0), λ h. (not-over n h, refl)) (recover n) refl (λ e₁ e₂. let y = neither e₂ in
+        (λ e. (RecoverAnswer.longSnapshot (not-false _ e₁) (omega (tests, y .0)) (not-false _ (y .1)) (over n e), never), λ e₃. refl))
 
     pub recover-answer : RecoverAnswer r n (step r (recover n) .class)
     recover-answer = to-snapshot .0

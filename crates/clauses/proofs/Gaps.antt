@@ -1,6 +1,6 @@
 -- The gaps that document 01 reads in the upstream contracts, closed: structure, update and rollback. Assumes nothing.
 use Prim.Native.Nat.{ℕ, _≤_}
-use mathlib.Core.{Path._≡_, Path.refl, Path._∙_, Bool.true, Logic._≢_}
+use mathlib.Core.{Path._≡_, Path.refl, Path.sym, Path._∙_, Path.subst, Bool.true, List.[], Logic._≢_}
 use native.Mathlib.Omega.{arith}
 use lib.Dec.{eqb}
 use borrow.Author.Tests.{eq-eqb, eqb-true, lt-ltb, not-true}
@@ -14,6 +14,7 @@ use Rattle.answers.specs.{Classes.Class.stepping, Classes.StepAnswer.finished}
 use Rattle.tickets.specs.{Live.isLive}
 use Rattle.tickets.specs.Live as Tickets
 use Rattle.wholeness.specs.Whole.{whole}
+use Rattle.gates.proofs.Passing.{payloads-pass}
 use Rattle.step_asks.specs.Asks.{askStructureOwn, askUpdateOwn}
 use Rattle.step_rollbacks.specs.Rollbacks.{turned, askRollbackOwn}
 use Rattle.reporting.specs.Reporting.{reported}
@@ -24,7 +25,7 @@ use Rattle.calls.specs.{Calls.step, Calls.Work.structure, Calls.Work.update, Ca
 use Rattle.calls.specs.{Calls.Call.ask, Calls.Call.report}
 use Rattle.demand_steps.proofs.{Own.own, Moves.choice, Moves.turn}
 use Rattle.clauses.specs.Gaps.{Succeeds, StructureAsked, AtFinished, RollbackAsked}
-use Rattle.clauses.proofs.Splitting.{clash, fitted, differ, unended, by, past, outcomes, on-step}
+use Rattle.clauses.proofs.Splitting.{Kept, clash, differ, unended, by, past, outcomes, on-step}
 use Rattle.clauses.proofs.Onward.{no-successor, ended, exclusive, onwards}
 
 module _ (r : Record) (m : r .revision ≤ top) (w : whole r ≡ true) where
@@ -32,8 +33,8 @@ module _ (r : Record) (m : r .revision ≤ top) (w : whole r ≡ true) where
   pub report-advances : (t c o : ℕ) → isLive Tickets.structure t (r .live) ≡ true → c ≤ areaSize → o ≤ areaSize → Succeeds r (step r (report (structured c o) t Done))
   unfolding own reportStructureOwn reported structureDone
   report-advances t c o l x y = on-step r m w (report (structured c o) t Done) (Succeeds r)
-      (by (Succeeds r) _ (λ e. clash _ l (not-true _ e)) (λ e. by (Succeeds r) _ (λ d. clash _ d (fitted x y)) (λ d.
-      by (Succeeds r) _ (λ i k. record { onward = onwards r m w t l c o; finished = λ j. refl; more = clash _ i })
+      (by (Succeeds r) _ (λ e. clash _ l (not-true _ e)) (λ e. subst (Kept (Succeeds r)) (sym (payloads-pass [] r _ x y))
+      (by (Succeeds r) _ (λ i k. record { onward = onwards r m w t l c o; finished = λ j. refl; more = clash _ i })
       (λ i k. record { onward = onwards r m w t l c o; finished = λ j. clash _ j i; more = λ j. refl }))))
 
   abbrev Asked : Told → Type 0

@@ -3,12 +3,13 @@ use Prim.Native.Nat.{ℕ, zero, suc, _-_, _≤_}
 use mathlib.Core.{Path._≡_, Path.refl, Path.sym, Path.ap, Bool.Bool, Bool.true, Bool.false, Bool.not, List.List, List.[], List._∷_}
 use native.Mathlib.Omega.{arith}
 use lib.ListN.{length, getD, replicate}
-use borrow.Author.Tests.{ltb-false, le-ltb, not-false}
+use borrow.Author.Tests.{not-false}
 use Rattle.choice.proofs.{Picks.no, Tests.both}
-use Rattle.areas.specs.Areas.{areaSize, sized, copied, long}
+use Rattle.areas.specs.Areas.{areaSize, sized, copied}
+use Rattle.areas.proofs.Laws.{within, not-over}
 use Rattle.record.specs.{Answers.Told, Answers.answer, Leaves.moving, Given.at, Fields.top, declared.Opening.Opening}
 use Rattle.answers.specs.{Classes.Class.performed, Classes.refused, declared.Answer.the-variants.Done, declared.Was.the-variants.Nothing}
-use Rattle.answers.specs.declared.Refusal.the-variants.{BadArea, TooLong}
+use Rattle.answers.specs.declared.Refusal.the-variants.{BadArea, LongSnapshot}
 use Rattle.wholeness.specs.Whole.{whole}
 use Rattle.gates.proofs.Passing.{fails}
 use Rattle.step_opens.specs.Opening.{opening, openBars, openStep}
@@ -31,15 +32,14 @@ module _ (given : Opening) (m : given .revision ≤ top) where
     opened = decide (openBars sizes l) (λ e. refl, λ e₁. (λ e. refl, λ e₂. refl))
 
     wf : {t : Told} → Decided unopened (λ c. refused c ≡ true) (answer (Done Nothing) (opening given l)) (openBars sizes l) t → whole (t .state) ≡ true
-    unfolding long
     wf (Decided.refuses n e) = opening-whole (at 0 0) 0 (omega arith) (omega arith)
-    wf (Decided.does x) = opening-whole given l m (ltb-false _ _ (fails (openBars sizes l) x TooLong))
+    wf (Decided.does x) = opening-whole given l m (within l (fails (openBars sizes l) x LongSnapshot))
 
     pub open-clauses : OpenClauses sizes given l (openStep sizes given l)
-    unfolding opening long
+    unfolding opening
     open-clauses = record {
       fits = decides opened refl (λ x. let f = fails (openBars sizes l) x in
-          (not-false _ (f BadArea), ltb-false _ _ (f TooLong))) (λ y. (ap not (y .0), (le-ltb _ _ (y .1), refl)));
+          (not-false _ (f BadArea), within l (f LongSnapshot))) (λ y. (ap not (y .0), (not-over l (y .1), refl)));
       c107 = wf opened;
       c108 = only (λ t. t .state .accepted ≡ l) opened (λ x. refl);
       c109 = only (λ t. t .state .revision ≡ given .revision) opened (λ x. refl);

@@ -3,13 +3,13 @@ use Prim.Native.Nat.{ℕ, _≤_}
 use mathlib.Core.{Path._≡_, Path.refl, Path.ap, Bool.true, List.List, List.[], List._∷_}
 use native.Mathlib.Omega.{arith}
 use lib.ListN.{getD}
-use borrow.Author.Tests.{eq-eqb, eqb-true, ltb-false, le-ltb, not-true}
+use borrow.Author.Tests.{eq-eqb, eqb-true, not-true}
 use Rattle.choice.specs.Pick.{_or_}
 use Rattle.choice.proofs.Tests.{never, both, join}
-use Rattle.areas.specs.Areas.{long}
+use Rattle.areas.proofs.Laws.{within, not-over}
 use Rattle.record.specs.{Answers.answer, Fields.top, Fields.withLengths, declared.Record.Record}
 use Rattle.answers.specs.{Classes.refused, declared.Answer.the-variants.Done, declared.Was.the-variants.One}
-use Rattle.answers.specs.declared.Refusal.the-variants.{Pending, TooLong}
+use Rattle.answers.specs.declared.Refusal.the-variants.{Pending, LongSnapshot}
 use Rattle.wholeness.specs.Whole.{whole}
 use Rattle.gates.proofs.Passing.{fails}
 use Rattle.step_ends.specs.Ending.{refreshBars, refreshOwn}
@@ -26,14 +26,13 @@ module _ (r : Record) (m : r .revision ≤ top) (w : whole r ≡ true) where
     refreshed = settled r (refresh n) (refreshBars r n) w refl (λ e. refl, λ e₁. (λ e. refl, λ e₂. refl))
 
     pub refresh-clauses : RefreshClauses r n (step r (refresh n))
-    unfolding long
     refresh-clauses = record {
       c224 = still-whole r m w (refresh n);
       c225 = keeps (SameBatch r) refreshed (search) (search);
       c226 = keeps (λ s. s .revision ≡ r .revision) refreshed refl refl;
       c227 = keeps (SameStaged r) refreshed (search) (search);
       c228 = decides refreshed refl (λ x. let f = fails (refreshBars r n) x in
-          (f Pending, ltb-false _ _ (f TooLong))) (λ y. (y .0, (le-ltb _ _ (y .1), refl)));
+          (f Pending, within n (f LongSnapshot))) (λ y. (y .0, (not-over n (y .1), refl)));
       c229 = only (λ t. t .state .accepted ≡ n) refreshed (λ x. refl);
       c230 = only (λ t. t .values ≡ r .accepted ∷ []) refreshed (λ x. refl);
       c231 = λ i. denied refreshed refl i .0;

@@ -11,6 +11,7 @@ use Rattle.tickets.specs.Live as Tickets
 use Rattle.record.specs.declared.Outcome.the-variants as O
 use Rattle.wholeness.specs.{Whole.whole}
 use Rattle.gates.specs.{Gates.barring, Gates.longPayloads}
+use Rattle.gates.proofs.Passing.{payloads-pass}
 use Rattle.reporting.specs.Reporting.{stale, reported}
 use Rattle.step_structure.specs.Structure.{structureDone, storing, reportStructureOwn}
 use Rattle.step_updates.specs.Updates.{updateDone, reportUpdateOwn}
@@ -20,7 +21,6 @@ use Rattle.demand_refusals.specs.Refusals.{returned}
 use Rattle.demand_refusals.proofs.ExactRefusals.{refusal-returns}
 use Rattle.demand_steps.proofs.{Own.own, Own.whole-step, Own.damaged-step, Testing.not-yes}
 use Rattle.clauses.specs.Polls.{ReportAnswers}
-use Rattle.clauses.proofs.Splitting.{fitted}
 
 module _ (r : Record) where
   -- demand 1: "A refusal .. returns the record equal"
@@ -51,9 +51,9 @@ module _ (r : Record) where
     unfolding own reportRollbackOwn
     rollback-outcomes = reports Tickets.rollback ticket (spent r) (rollbackDone (spent r)) (λ u. u) (λ u. refl) _ (λ x. whole-step r (report rolledBack ticket x) w)
 
-    -- payloads that fit are not refused 8
+    -- payloads that fit are refused neither 14 nor 15
     pub structure-outcomes : (c o : ℕ) → c ≤ areaSize → o ≤ areaSize →
         ReportAnswers Tickets.structure ticket r (spent (storing c o r)) (λ x. step r (report (structured c o) ticket x))
     unfolding own reportStructureOwn
     structure-outcomes c o p q = let s : Record = spent (storing c o r) in
-        reports Tickets.structure ticket s (structureDone s) (barring (longPayloads c o []) r) (λ u. sym (no _ (fitted p q) refl)) _ (λ x. whole-step r (report (structured c o) ticket x) w)
+        reports Tickets.structure ticket s (structureDone s) (barring (longPayloads c o []) r) (λ u. payloads-pass [] r u p q) _ (λ x. whole-step r (report (structured c o) ticket x) w)

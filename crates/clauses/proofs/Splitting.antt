@@ -3,10 +3,9 @@
 use Prim.Native.Nat.{ℕ, _≤_}
 use mathlib.Core.{Path._≡_, Path.refl, Path.sym, Path._∙_, Path.ap, Path.subst, Bool.Bool, Bool.true, Bool.false, Bool._&&_, List.List, List.[], List._∷_, Logic._↔_}
 use lib.Dec.{eqb}
-use borrow.Author.Tests.{le-ltb, ne-eqb}
+use borrow.Author.Tests.{ne-eqb}
 use Rattle.choice.specs.Pick.{pick, _and_, _or_}
-use Rattle.choice.proofs.{Picks.picked, Tests.never, Tests.both, Tests.neither, Tests.eqb-ne, Tests.tests}
-use Rattle.areas.specs.Areas.{areaSize, long}
+use Rattle.choice.proofs.{Picks.picked, Tests.never, Tests.both, Tests.eqb-ne}
 use Rattle.record.specs.{Answers.Told, Answers.told, Answers.refuse, Given.effectOf, Fields.top, declared.Record.Record, declared.Outcome.Outcome}
 use Rattle.answers.specs.{Classes.Class.performed, Classes.Class.refusal, Classes.Class.stepping, Classes.StepAnswer.finished, Answers.said}
 use Rattle.answers.specs.{declared.Refusal.Refusal}
@@ -33,18 +32,10 @@ differ n e = absurd (eqb-ne _ _ n (ap numberOf e))
 pub unended : {P : Type 0} {c : Class} → taken c ≡ false → c ≡ stepping finished → P
 unended n e = clash _ (ap taken e) n
 
--- neither of two tests holds, and so of two payloads neither is over 4,096
+-- neither of two tests holds
 pub nor : {a b : Bool} → a ≡ false → b ≡ false → a or b ≡ false
 unfolding _or_
 nor x y = rw (x, y)
-
-pub fitting : (c o : ℕ) → long c or long o ≡ false → (c ≤ areaSize) × (o ≤ areaSize)
-unfolding long
-fitting c o e = let x = neither e in (omega tests, omega tests)
-
-pub fitted : {c o : ℕ} → c ≤ areaSize → o ≤ areaSize → long c or long o ≡ false
-unfolding long
-fitted x y = nor (le-ltb _ _ x) (le-ltb _ _ y)
 
 -- a claim, where the record afterwards is known to be whole
 abbrev pub Kept : (Told → Type 0) → Told → Type 0

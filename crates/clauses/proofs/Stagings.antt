@@ -4,9 +4,10 @@ use mathlib.Core.{Path._≡_, Path.refl, Path.ap, Bool.Bool, Bool.true, Bool.fal
 use borrow.Author.Tests.{eqb-true, ne-eqb, ltb-true, ltb-false, le-ltb, not-true}
 use Rattle.choice.specs.Pick.{pick}
 use Rattle.choice.proofs.{Picks.yes, Picks.no, Tests.never, Tests.eqb-ne}
+use Rattle.areas.proofs.Laws.{over, within, not-over}
 use Rattle.record.specs.{Answers.Told, Answers.answer, Fields.top, Fields.withLengths, declared.Record.Record, declared.Beginning.Beginning}
 use Rattle.answers.specs.{Classes.Class, Classes.Class.refusal, declared.Answer.the-variants.Done, declared.Was.the-variants.Nothing}
-use Rattle.answers.specs.declared.Refusal.the-variants.{Pending, Idle, Capacity, TooLong, TooMany}
+use Rattle.answers.specs.declared.Refusal.the-variants.{Pending, Idle, Capacity, TooMany, LongCandidate, LongRecovery}
 use Rattle.wholeness.specs.{Whole.whole}
 use Rattle.gates.specs.{Gates.Bar}
 use Rattle.gates.proofs.Passing.{Clear, fails}
@@ -14,8 +15,8 @@ use Rattle.step_begins.specs.Beginning.{firstPhase, begun, beginBars, beginOwn,
 use Rattle.calls.specs.{Calls.step, Calls.Call.begin, Calls.Call.edit}
 use Rattle.demand_steps.proofs.Own.{own}
 use Rattle.clauses.specs.{Keeping.gained, Keeping.Framed, Keeping.SameBatch, Staging.CanBegin, Staging.Begun, Staging.BeginClauses, Staging.EditClauses, Gaps.BeginAnswer}
-use Rattle.clauses.specs.Gaps.BeginAnswer.{pending, capacity, tooLong, tooMany, begins}
-use Rattle.clauses.proofs.Splitting.{fitting, fitted, differ, bar, Each, Decided, decides, only, denied, keeps, still-whole, settled}
+use Rattle.clauses.specs.Gaps.BeginAnswer.{pending, capacity, longCandidate, longRecovery, tooMany, begins}
+use Rattle.clauses.proofs.Splitting.{differ, bar, Each, Decided, decides, only, denied, keeps, still-whole, settled}
 use Rattle.clauses.proofs.Splitting.Decided.{refuses, does}
 
 framed : {r : Record} {E : Class → Type 0} {d t : Told} {bs : List Bar} → Decided r E d bs t → whole (t .state) ≡ true →
@@ -31,15 +32,21 @@ module _ (r : Record) (b : Beginning) where
   errors =
       bar (λ e. (pending e, λ g. ap refusal (yes _ e refl))) (λ e₁.
       bar (λ e. (capacity e₁ (eqb-true _ _ e), λ g. ap refusal (no _ e₁ refl))) (λ e₂.
-      bar (λ e. (tooLong e₁ (eqb-ne _ _ e₂) e, never)) (λ e₃. let x = fitting _ _ e₃ in
-      bar (λ e. (tooMany e₁ (eqb-ne _ _ e₂) (x .0) (x .1) (ltb-true _ _ e), never)) (λ e₄. refl))))
+      bar (λ e. (longCandidate e₁ (eqb-ne _ _ e₂) (over _ e), never)) (λ e₃.
+      bar (λ e. (longRecovery e₁ (eqb-ne _ _ e₂) (within _ e₃) (over _ e), never)) (λ e₄.
+      bar (λ e. (tooMany e₁ (eqb-ne _ _ e₂) (within _ e₃) (within _ e₄) (ltb-true _ _ e), never)) (λ e₅. refl)))))
 
   can : Clear (beginBars r b) → CanBegin r b
-  can x = let f = fails (beginBars r b) x in let y = fitting _ _ (f TooLong) in
-      record { idle = f Pending; room = eqb-ne _ _ (f Capacity); candidate = y .0; recovery = y .1; few = ltb-false _ _ (f TooMany) }
+  can x = let f = fails (beginBars r b) x in record {
+    idle = f Pending;
+    room = eqb-ne _ _ (f Capacity);
+    candidate = within _ (f LongCandidate);
+    recovery = within _ (f LongRecovery);
+    few = ltb-false _ _ (f TooMany);
+  }
 
   clear : CanBegin r b → Clear (beginBars r b)
-  clear y = (y .idle, (ne-eqb _ _ (y .room), (fitted (y .candidate) (y .recovery), (le-ltb _ _ (y .few), refl))))
+  clear y = (y .idle, (ne-eqb _ _ (y .room), (not-over _ (y .candidate), (not-over _ (y .recovery), (le-ltb _ _ (y .few), refl)))))
 
   answered : {d t : Told} → d .class ≡ Class.performed → Decided r Error d (beginBars r b) t → BeginAnswer r b (t .class)
   answered p (refuses n e) = e .0
@@ -70,7 +77,7 @@ module _ (r : Record) (c o : ℕ) (m : r .revision ≤ top) (w : whole r ≡ tru
 
   edited : Decided r Unstaged (answer (Done Nothing) (withLengths (r .accepted) c o r)) (editBars r c o) (step r (edit c o))
   unfolding own editOwn
-  edited = settled r (edit c o) (editBars r c o) w refl (λ e i. not-true _ e, λ e₁. (λ e. differ refl, λ e₂. refl))
+  edited = settled r (edit c o) (editBars r c o) w refl (λ e i. not-true _ e, λ e₁. (λ e. differ refl, λ e₂. (λ e. differ refl, λ e₃. refl)))
 
   idle : {d t : Told} → Decided r Unstaged d (editBars r c o) t → d .class ≡ Class.performed → t .class ≡ refusal Idle → (r .staged ≡ false) × (t .state .staged ≡ false)
   idle (refuses n e) p i = (e i, e i)

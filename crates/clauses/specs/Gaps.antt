@@ -8,7 +8,7 @@ use mathlib.Core.Logic.{_≢_}
 use lib.Dec.{eqb, ltb}
 use Rattle.choice.specs.Pick.{_or_}
 use Rattle.phases.specs.Phases.{none, remove, updates, ready, undo, recoverRemove, recovered, hasSuccessor, boundary}
-use Rattle.areas.specs.Areas.{areaSize, long}
+use Rattle.areas.specs.Areas.{areaSize}
 use Rattle.batch.specs.Batch.{limit}
 use Rattle.answers.specs.Classes.{Class, StepAnswer, refused}
 use Rattle.answers.specs.Classes.Class.{performed, refusal, stepping}
@@ -59,7 +59,8 @@ pub record RollbackAsked (r : Record) (t : Told) : Type 0 where
 pub data BeginAnswer (r : Record) (b : Beginning) : Class → Type 0 where
   pending : r .staged ≡ true → BeginAnswer r b (refusal why.Pending)
   capacity : r .staged ≡ false → r .revision ≡ top → BeginAnswer r b (refusal why.Capacity)
-  tooLong : r .staged ≡ false → r .revision ≢ top → long (b .candidate) or long (b .recovery) ≡ true → BeginAnswer r b (refusal why.TooLong)
+  longCandidate : r .staged ≡ false → r .revision ≢ top → areaSize < b .candidate → BeginAnswer r b (refusal why.LongCandidate)
+  longRecovery : r .staged ≡ false → r .revision ≢ top → b .candidate ≤ areaSize → areaSize < b .recovery → BeginAnswer r b (refusal why.LongRecovery)
   tooMany : r .staged ≡ false → r .revision ≢ top → b .candidate ≤ areaSize → b .recovery ≤ areaSize → limit < b .actions → BeginAnswer r b (refusal why.TooMany)
   begins : CanBegin r b → BeginAnswer r b performed
 
@@ -74,6 +75,6 @@ pub data RecoverAnswer (r : Record) (n : ℕ) : Class → Type 0 where
   idle : r .staged ≡ false → RecoverAnswer r n (refusal why.Idle)
   notReady : r .staged ≡ true → ltb 0 (r .entries) or not (eqb (r .phase .number) none or eqb (r .phase .number) recovered) ≡ true →
       RecoverAnswer r n (refusal why.NotReady)
-  tooLong : r .staged ≡ true → r .entries ≡ 0 → eqb (r .phase .number) none or eqb (r .phase .number) recovered ≡ true → areaSize < n →
-      RecoverAnswer r n (refusal why.TooLong)
+  longSnapshot : r .staged ≡ true → r .entries ≡ 0 → eqb (r .phase .number) none or eqb (r .phase .number) recovered ≡ true → areaSize < n →
+      RecoverAnswer r n (refusal why.LongSnapshot)
   recovers : CanRecover r n → RecoverAnswer r n performed

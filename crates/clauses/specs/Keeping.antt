@@ -9,7 +9,7 @@ use Rattle.answers.specs.declared.Refusal.{Refusal}
 use Rattle.answers.specs.declared.Refusal.the-variants.{Pending, Idle, Capacity, NotReady, Recovering, NoStatus}
 use Rattle.wholeness.specs.Whole.{whole}
 
--- "Iff clauses gain the refusals 6 to 12; the others hold where none of these is given."
+-- "Iff clauses gain the refusals 6 to 12; the others hold where none of these is given.": 14, 15 and 16 among them, in the place of 8
 abbrev pub gains : Refusal → Bool
 gains why = not (is Pending why || is Idle why || is Capacity why || is NotReady why || is Recovering why || is NoStatus why)
 

@@ -60,15 +60,16 @@ ahead-met = let f = demand ahead .commit-exactly refl refl in (f .order, f .exac
 abbrev lent : Call → Bool → Bool → Bool → Sent
 lent c sized sound full = record { call = c; sized = sized; sound = sound; full = full }
 
--- a failure, a wait, and refusals: 6, 7 and 12 of what is lent, and then 1, 4, 5, 10 and 8
+-- a failure, a wait, and refusals: 6, 7 and 12 of what is lent, and then 1, 4, 5, 10, 15 and, where both payloads are long, 14
 abbrev pub rough : List Sent
 rough =
     begun ++ map plainly (ask structure ∷ report (structured 2 2) 1 (Failed 9) ∷ ask structure ∷ report (structured 2 2) 2 Waiting ∷ [])
     ++ lent (report (structured 2 2) 2 Done) false true false ∷ lent (ask structure) true false false ∷ lent (ask structure) true true true
-    ∷ map plainly (begin true (beginning 2 2 2) ∷ commit ∷ ask update ∷ report (structured 2 2) 2 Done ∷ edit 2 (areaSize + 1) ∷ [])
+    ∷ map plainly (begin true (beginning 2 2 2) ∷ commit ∷ ask update ∷ report (structured 2 2) 2 Done ∷ edit 2 (areaSize + 1)
+    ∷ edit (areaSize + 1) (areaSize + 1) ∷ [])
 
 -- none of it counts, and the due asking is granted
-pub rough-met : (numbers start rough ≡ 0 ∷ 20 ∷ 22 ∷ 20 ∷ 21 ∷ 6 ∷ 7 ∷ 12 ∷ 1 ∷ 4 ∷ 5 ∷ 10 ∷ 8 ∷ [])
+pub rough-met : (numbers start rough ≡ 0 ∷ 20 ∷ 22 ∷ 20 ∷ 21 ∷ 6 ∷ 7 ∷ 12 ∷ 1 ∷ 4 ∷ 5 ∷ 10 ∷ 15 ∷ 14 ∷ [])
     × (seen rough .done ≡ []) × (performs (now rough) commit ≡ false) × (grants (now rough) (ask structure) ≡ true)
 unfolding now seen numbers due
 rough-met =
@@ -99,7 +100,7 @@ undone =
 
 pub undone-met : (seen undone .undone ≡ undo 0 ∷ settle 9 ∷ settle 10 ∷ settle 11 ∷ settle 12 ∷ [])
     × (performs (now undone) recoverRetained ≡ true)
-    × (called (now undone) (recover areaSize) .number ≡ 0) × (called (now undone) (recover (areaSize + 1)) .number ≡ 8)
+    × (called (now undone) (recover areaSize) .number ≡ 0) × (called (now undone) (recover (areaSize + 1)) .number ≡ 16)
 unfolding now seen
 undone-met =
     let b = demand undone .recovery-exactly refl refl in

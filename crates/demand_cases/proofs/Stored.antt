@@ -83,7 +83,7 @@ undoing =
     ++ settles 5 ++ settles 6 ++ settles 7 ++ settles 8
 
 pub undoing-met : (seen (turned ++ undoing) .undone ≡ undo 1 ∷ undo 0 ∷ settle 9 ∷ settle 10 ∷ settle 11 ∷ settle 12 ∷ [])
-    × (performs (now (turned ++ undoing)) recoverRetained ≡ true) × (called (now (turned ++ undoing)) (recover (areaSize + 1)) .number ≡ 8)
+    × (performs (now (turned ++ undoing)) recoverRetained ≡ true) × (called (now (turned ++ undoing)) (recover (areaSize + 1)) .number ≡ 16)
     × (called (now (turned ++ undoing)) commit .number ≡ 4)
 unfolding now seen recoveredIn
 undoing-met =

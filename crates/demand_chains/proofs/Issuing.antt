@@ -1,14 +1,15 @@
 -- An asking that is answered with a ticket leaves it live, so that its Done report is taken. Assumes nothing.
 use Prim.Native.Nat.{ℕ, _+_, _≤_}
-use mathlib.Core.Path.{_≡_, refl, sym, _∙_, ap}
+use mathlib.Core.Path.{_≡_, refl, sym, _∙_, ap, subst}
 use mathlib.Core.Bool.{Bool, true, false, not}
+use mathlib.Core.List.{[]}
 use native.Mathlib.Omega.{arith}
 use lib.ListN.{getD}
-use borrow.Author.Tests.{eq-eqb, le-ltb, not-true}
+use borrow.Author.Tests.{eq-eqb, not-true}
 use Rattle.choice.specs.Pick.{pick, _and_}
 use Rattle.choice.proofs.Picks.{picked, each}
-use Rattle.choice.proofs.Tests.{never, test, either}
-use Rattle.areas.specs.Areas.{long, areaSize}
+use Rattle.choice.proofs.Tests.{never, test}
+use Rattle.areas.specs.Areas.{areaSize}
 use Rattle.answers.specs.Classes.{ticketed, taken}
 use Rattle.answers.specs.Answers.{Said, says}
 use Rattle.record.specs.Answers.{Told, saidOf}
@@ -20,6 +21,7 @@ use Rattle.tickets.specs.declared.Live.the-variants.{Structure, Update, Rollbac
 use Rattle.record.specs.declared.Outcome.the-variants.{Done}
 use Rattle.answers.specs.declared.Answer.the-variants as A
 use Rattle.wholeness.specs.Whole.{whole}
+use Rattle.gates.proofs.Passing.{payloads-pass}
 use Rattle.step_asks.specs.Asks.{askStructureOwn, askUpdateOwn}
 use Rattle.step_rollbacks.specs.Rollbacks.{askRollbackOwn, turned}
 use Rattle.reporting.specs.Reporting.{reported}
@@ -69,10 +71,6 @@ module _ (r : Record) where
 abbrev Takes : Told → Type 0
 Takes x = taken (x .class) ≡ true
 
-short : (n : ℕ) → n ≤ areaSize → long n ≡ false
-unfolding long
-short n h = le-ltb areaSize n h
-
 module _ (r : Record) (t : ℕ) where
   -- behind its first refusal, "10"
   live : (k : ℕ) (x y : Told) → isLive k t (r .live) ≡ true → Takes y → Takes (pick (not (isLive k t (r .live))) x y)
@@ -81,7 +79,7 @@ module _ (r : Record) (t : ℕ) where
   takes-structure : (c o : ℕ) → r .live ≡ Structure t → c ≤ areaSize → o ≤ areaSize → Takes (own r (report (structured c o) t Done))
   unfolding own reportStructureOwn reported structureDone isLive _and_
   takes-structure c o e p q =
-      live _ _ _ (rw e (eq-eqb t t refl)) (picked Takes _ (λ j. either j (λ k. clash _ k (short c p)) (λ k. clash _ k (short o q))) (λ j. each Takes _ refl refl))
+      live _ _ _ (rw e (eq-eqb t t refl)) (subst Takes (sym (payloads-pass [] r _ p q)) (each Takes _ refl refl))
 
   takes-update : r .live ≡ Update t → Takes (own r (report updated t Done))
   unfolding own reportUpdateOwn reported updateDone isLive _and_

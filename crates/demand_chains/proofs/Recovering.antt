@@ -11,7 +11,7 @@ use Rattle.areas.specs.Areas.{long}
 use Rattle.answers.specs.Classes.{successful}
 use Rattle.record.specs.Answers.{Told, refuse}
 use Rattle.record.specs.declared.Record.{Record}
-use Rattle.answers.specs.declared.Refusal.the-variants.{Idle, NotReady, TooLong}
+use Rattle.answers.specs.declared.Refusal.the-variants.{Idle, NotReady, LongSnapshot}
 use Rattle.step_recoveries.specs.Recovering.{unrestored, recoverOwn, recoverRetainedOwn}
 use Rattle.calls.specs.Calls.{step}
 use Rattle.calls.specs.Calls.Call.{recover, recoverRetained}
@@ -26,14 +26,14 @@ use Rattle.demand_chains.proofs.Course.Course.{ahead, behind}
 use Rattle.demand_chains.proofs.Chain.{Good, undamaged}
 use Rattle.demand_chains.proofs.Exactly.{retained-is, recover-is, backward-law}
 
--- 2, and then 4 if u, and then 8 if l
+-- 2, and then 4 if u, and then 16 if l
 retains : (s u : Bool) (r : Record) (x : Told) → s ≡ true → x .number ≡ 0 → (pick (not s) (refuse Idle r) (pick u (refuse NotReady r) x)) .number ≡ pick (not u) 0 4
 unfolding pick
 retains s true r x e z = rw e
 retains s false r x e z = rw e z
 
 gives : (s u l : Bool) (r : Record) (x : Told) → s ≡ true → x .number ≡ 0 →
-    (pick (not s) (refuse Idle r) (pick u (refuse NotReady r) (pick l (refuse TooLong r) x))) .number ≡ pick (not u) (pick l 8 0) 4
+    (pick (not s) (refuse Idle r) (pick u (refuse NotReady r) (pick l (refuse LongSnapshot r) x))) .number ≡ pick (not u) (pick l 16 0) 4
 unfolding pick
 gives s true l r x e z = rw e
 gives s false true r x e z = rw e
@@ -44,7 +44,7 @@ module _ {r : Record} (w : Whole r) (e : r .staged ≡ true) where
   unfolding own recoverRetainedOwn
   retained-by = ap (λ (t : Told). t .number) (undamaged recoverRetained w) ∙ retains (r .staged) (unrestored r) r _ e refl
 
-  given-by : (n : ℕ) → step r (recover n) .number ≡ pick (not (unrestored r)) (pick (long n) 8 0) 4
+  given-by : (n : ℕ) → step r (recover n) .number ≡ pick (not (unrestored r)) (pick (long n) 16 0) 4
   unfolding own recoverOwn
   given-by n = ap (λ (t : Told). t .number) (undamaged (recover n) w) ∙ gives (r .staged) (unrestored r) (long n) r _ e refl
 
@@ -69,7 +69,7 @@ module _ (w : Watch) (r : Record) (g : Good w r) (i : w .running ≡ true) where
       let j = sym (retained-is (g .is-whole) e) ∙ h in
       record {
         retained = retained-by (g .is-whole) e ∙ ap (λ (c : Bool). pick c 0 4) j;
-        given = λ n. given-by (g .is-whole) e n ∙ ap (λ (c : Bool). pick c (pick (long n) 8 0) 4) j;
+        given = λ n. given-by (g .is-whole) e n ∙ ap (λ (c : Bool). pick c (pick (long n) 16 0) 4) j;
       }
 
   pub back-law : w .turned ≡ true → Recoveries r (back w)

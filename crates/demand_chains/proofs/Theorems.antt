@@ -6,15 +6,15 @@ use mathlib.Core.List.{List}
 use mathlib.Core.Logic.{_≢_}
 use native.Mathlib.Omega.{arith}
 use lib.ListN.{length}
-use borrow.Author.Tests.{ltb-false}
 use Rattle.choice.proofs.Tests.{never}
-use Rattle.areas.specs.Areas.{long, areaSize}
+use Rattle.areas.specs.Areas.{areaSize}
+use Rattle.areas.proofs.Laws.{within}
 use Rattle.answers.specs.Classes.{successful}
 use Rattle.record.specs.Answers.{Told}
 use Rattle.record.specs.Fields.{top}
 use Rattle.record.specs.declared.Record.{Record}
 use Rattle.record.specs.declared.Opening.{Opening}
-use Rattle.answers.specs.declared.Refusal.the-variants.{TooLong}
+use Rattle.answers.specs.declared.Refusal.the-variants.{LongSnapshot}
 use Rattle.wholeness.specs.Whole.{whole}
 use Rattle.step_opens.specs.Opening.{unopened, openBars, opening, openStep}
 use Rattle.calls.specs.Calls.{Call}
@@ -54,8 +54,8 @@ module _ (sized : Bool) (given : Opening) (l : ℕ) (m : given .revision ≤ top
   Opened x = successful (x .class) ≡ true → Good unwatched (x .state) × (x .state .revision ≡ given .revision)
 
   opened : Opened (openStep sized given l)
-  unfolding openStep opening long
-  opened = row Opened unopened (λ why e. never (sym e)) (openBars sized l) (λ f e. (good-opening given l m (ltb-false _ _ (f TooLong)), refl))
+  unfolding openStep opening
+  opened = row Opened unopened (λ why e. never (sym e)) (openBars sized l) (λ f e. (good-opening given l m (within l (f LongSnapshot)), refl))
 
 -- "In such a chain from an opening that is not refused, the log aside and every area of the right size"; the revision is a u64
 module _ (sized : Bool) (given : Opening) (l : ℕ) (m : given .revision ≤ top) (o : successful (openStep sized given l .class) ≡ true) (ss : List Sent) where

@@ -34,11 +34,11 @@ pub record UntilRecovery (w later : Watch) (r : Record) : Type 0 where
   pub started : later .started ≡ w .started
   pub uncommitted : step r commit .number ≡ 4
 
--- "Recover ..: .. 4 if entries > 0 or phase not 0 or 13; 8." "Recover from the retained payload: 2, 4 alike". The test says whether all
--- that was started is undone
+-- "Recover ..: .. 4 if entries > 0 or phase not 0 or 13; 8.", with "16 snapshot" in the place of 8. "Recover from the retained payload:
+-- 2, 4 alike". The test says whether all that was started is undone
 pub record Recoveries (r : Record) (undone : Bool) : Type 0 where
   pub retained : step r recoverRetained .number ≡ pick undone 0 4
-  pub given : (length : ℕ) → step r (recover length) .number ≡ pick undone (pick (long length) 8 0) 4
+  pub given : (length : ℕ) → step r (recover length) .number ≡ pick undone (pick (long length) 16 0) 4
 
 -- "the k undos in reverse order", then the phases 9 to 12: all of them
 abbrev pub back : Watch → Bool

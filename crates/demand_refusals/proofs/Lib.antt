@@ -10,3 +10,4 @@ pub mod Logged
 pub mod Recorder
 pub mod Marks
 pub mod Numbers
+pub mod Retired

@@ -1,5 +1,5 @@
--- Document 01's numbers, beside the names that the definitions go by: of the classes of answers, the kinds of events and the status
--- bits. Assumes nothing.
+-- The numbers of documents 01 and 02, beside the names that the definitions go by: of the classes of answers, the kinds of events and
+-- the status bits. Assumes nothing.
 use Prim.Native.Nat.{ℕ}
 use mathlib.Core.Path.{_≡_}
 use mathlib.Core.Bool.{Bool, true, false}
@@ -15,11 +15,13 @@ use Rattle.calls.specs.Calls.Work.{structure, update, rollback}
 use Rattle.calls.specs.Calls.Report.{structured, updated, rolledBack}
 use Rattle.calls.specs.Calls.Call.{begin, ask, report, commit, recover, recoverRetained, refresh}
 use Rattle.calls.specs.Kinds.{kindOf}
+use Rattle.demand_refusals.specs.Retired.{retired}
 
 -- what is said of a class, by its number
 pub record Numbered (c : Class) (n : ℕ) : Type 0 where
-  -- "Numbers 1 to 13 are refusals"
-  pub refusals : refused c ≡ (leb 1 n and leb n 13)
+  -- "Numbers 1 to 13 are refusals", and 14, 15 and 16, which "take its place": that of 8, which is "retired and never given"
+  pub refusals : refused c ≡ (leb 1 n and leb n 16)
+  pub in-use : eqb n retired ≡ false
   -- "0 | Done"
   pub success : successful c ≡ eqb n 0
   -- "Granted means Ticket or Finished."

@@ -1,5 +1,6 @@
--- Document 01, "What a call answers" and "The steps": for each call, the numbers that it answers in the order given, each with its
--- test in the document's words. Assumes nothing.
+-- Document 01, "What a call answers" and "The steps", and document 02, request 1: for each call, the numbers that it answers in the
+-- order given, each with its test in the document's words. Where a sentence of document 01 has 8, 14, 15 and 16 "take its place in the
+-- order of checks". Assumes nothing.
 use Prim.Native.Nat.{ℕ, _+_, _-_}
 use mathlib.Core.Bool.{Bool, true, false, not}
 use mathlib.Core.List.{List, [], _∷_}
@@ -50,12 +51,13 @@ failed O.Done = false
 abbrev pub gateRows : Bool → Bool → Record → List Row → List Row
 gateRows sized sound r own = 6 when not sized ∷ 7 when not (sound and whole r) ∷ own
 
--- 8: "a payload over 4,096": of the candidate and the recovery payload, and of a snapshot
+-- in the place of 8, "a payload over 4,096": "14 candidate, 15 recovery, 16 snapshot (open, recover, refresh), in that order where
+-- several apply. Number 8 is retired"
 abbrev pub payloadRows : ℕ → ℕ → List Row → List Row
-payloadRows candidate recovery next = 8 when (long candidate or long recovery) ∷ next
+payloadRows candidate recovery next = 14 when long candidate ∷ 15 when long recovery ∷ next
 
 abbrev pub snapshotRows : ℕ → List Row → List Row
-snapshotRows length next = 8 when long length ∷ next
+snapshotRows length next = 16 when long length ∷ next
 
 -- the call is performed
 abbrev pub doneRows : List Row

@@ -1,5 +1,5 @@
 -- Every call falls into one of the cases of `Leaf`. Assumes nothing.
-use Prim.Native.Nat.{ℕ, _≤_}
+use Prim.Native.Nat.{ℕ}
 use mathlib.Core.Path.{_≡_, refl}
 use mathlib.Core.Bool.{Bool, true, false}
 use mathlib.Core.List.{List, []}
@@ -7,8 +7,9 @@ use lib.Dec.{eqb}
 use borrow.Author.Tests.{eqb-true, ltb-false, leb-true, leb-false, not-false}
 use Rattle.choice.specs.Pick.{pick, _or_}
 use Rattle.choice.proofs.Picks.{picked, each}
-use Rattle.choice.proofs.Tests.{either, neither, eqb-ne, tests}
-use Rattle.areas.specs.Areas.{long, areaSize}
+use Rattle.choice.proofs.Tests.{either, neither, eqb-ne}
+use Rattle.areas.specs.Areas.{long}
+use Rattle.areas.proofs.Laws.{within}
 use Rattle.answers.specs.Answers.{says}
 use Rattle.record.specs.Answers.{Told, refuse}
 use Rattle.record.specs.Given.{effectOf}
@@ -18,7 +19,7 @@ use Rattle.record.specs.declared.Outcome.{Outcome}
 use Rattle.record.specs.declared.Outcome.the-variants as O
 use Rattle.answers.specs.declared.Answer.the-variants.{Finished}
 use Rattle.answers.specs.declared.Refusal.{Refusal}
-use Rattle.answers.specs.declared.Refusal.the-variants.{Pending, Idle, Capacity, TooLong, TooMany, Stale}
+use Rattle.answers.specs.declared.Refusal.the-variants.{Pending, Idle, Capacity, TooMany, Stale, LongCandidate, LongRecovery, LongSnapshot}
 use Rattle.gates.specs.Gates.{Bar, barring, longSnapshot}
 use Rattle.gates.proofs.Passing.{Fails}
 use Rattle.step_begins.specs.Beginning.{beginBars, beginOwn, editBars, editOwn}
@@ -42,10 +43,6 @@ use Rattle.demand_steps.proofs.Leaf.{Apart, Updates, Left, Leaf}
 use Rattle.demand_steps.proofs.Leaf.Goes.{last, more}
 use Rattle.demand_steps.proofs.Leaf.Leaf.{kept, began, structureAsked, updateEnded, updateAsked, rollbackEnded, turnedEmpty, turnedAsked, waited, went, updateTaken, undoTaken, committed, recovered, restored}
 
-short : (n : ℕ) → long n ≡ false → n ≤ areaSize
-unfolding long
-short n h = omega tests
-
 -- which tests must fail for a call to be performed, as facts
 open-tests : (p : ℕ) → eqb p 0 or eqb p 5 or eqb p 8 ≡ false → eqb p 7 or eqb p 13 ≡ false → Apart p
 open-tests p e d =
@@ -63,8 +60,8 @@ unfolding sees pick
 finished-unseen w = refl
 
 module _ (r : Record) where
-  stores : (c o : ℕ) → long c or long o ≡ false → Left r (r .accepted) c o
-  stores c o h l = let s = neither h in record { accepted = l .accepted; candidate = short c (s .0); recovery = short o (s .1) }
+  stores : (c o : ℕ) → long c ≡ false → long o ≡ false → Left r (r .accepted) c o
+  stores c o h i l = record { accepted = l .accepted; candidate = within c h; recovery = within o i }
 
   pub refuses : {c : Call} (why : Refusal) → Leaf r c (refuse why r)
   refuses {c} why = kept (unseen c why) (λ l. l)
@@ -86,7 +83,7 @@ module _ (r : Record) where
   pub classify : (c : Call) → Leaf r c (own r c)
   unfolding own beginOwn editOwn askStructureOwn askUpdateOwn askRollbackOwn reportStructureOwn reportUpdateOwn reportRollbackOwn commitOwn recoverOwn recoverRetainedOwn refreshOwn structureDone updateDone rollbackDone adopting leaving sees
   classify (begin structural b) =
-      barred (beginBars r b) (λ f. began (f Pending) (eqb-ne _ _ (f Capacity)) (stores _ _ (f TooLong)) (ltb-false _ _ (f TooMany)))
+      barred (beginBars r b) (λ f. began (f Pending) (eqb-ne _ _ (f Capacity)) (stores _ _ (f LongCandidate) (f LongRecovery)) (ltb-false _ _ (f TooMany)))
   classify (ask structure) =
       split _ (λ e. refuses _) (λ e₁. split _ (λ e. kept finished-unseen (λ l. l)) (λ e₂. split _ (λ e. refuses _) (λ e₃. structureAsked (open-tests _ e₁ e₂))))
   classify (ask update) =
@@ -98,7 +95,7 @@ module _ (r : Record) where
       split _ (λ e. rollbackEnded (leb-true _ _ e)) (λ e₁. split _ (λ e. refuses _) (λ e₂.
       split _ (λ e. turnedEmpty (leb-false _ _ e₁) (eqb-true _ _ e)) (λ e₃. turnedAsked (leb-false _ _ e₁) (eqb-ne _ _ e₃))))
   classify (report (structured c o) t x) =
-      barred (reportStructureBars r t c o) (λ f. let s = stores c o (f TooLong) in let l = not-false _ (f Stale) in
+      barred (reportStructureBars r t c o) (λ f. let s = stores c o (f LongCandidate) (f LongRecovery) in let l = not-false _ (f Stale) in
       outcomes s (each (Leaf r _) _ (went refl l s) (went refl l s)) x)
   classify (report updated t x) =
       barred (reportUpdateBars r t) (λ f. let l = not-false _ (f Stale) in
@@ -106,13 +103,13 @@ module _ (r : Record) where
   classify (report rolledBack t x) =
       barred (reportRollbackBars r t) (λ f. let l = not-false _ (f Stale) in
       outcomes (λ k. k) (split _ (λ h. undoTaken refl l (last (eqb-true _ _ h))) (λ h. undoTaken refl l (more (eqb-ne _ _ h)))) x)
-  classify (edit c o) = barred (editBars r c o) (λ f. kept (λ w. refl) (stores c o (f TooLong)))
+  classify (edit c o) = barred (editBars r c o) (λ f. kept (λ w. refl) (stores c o (f LongCandidate) (f LongRecovery)))
   classify commit = barred (commitBars r) (λ f. committed (not-false _ (f Idle)))
-  classify (recover n) = barred (recoverBars r (longSnapshot n [])) (λ f. recovered (short n (f TooLong)))
+  classify (recover n) = barred (recoverBars r (longSnapshot n [])) (λ f. recovered (within n (f LongSnapshot)))
   classify recoverRetained = barred (recoverBars r []) (λ f. restored)
   classify (refresh n) =
       barred (refreshBars r n) (λ f. kept (λ w. refl) (λ l.
-      record { accepted = short n (f TooLong); candidate = l .candidate; recovery = l .recovery }))
+      record { accepted = within n (f LongSnapshot); candidate = l .candidate; recovery = l .recovery }))
   classify (stamp domain) = split _ (λ e. refuses _) (λ e. kept (λ w. refl) (λ l. l))
   classify (check domain s) = split _ (λ e. kept (λ w. refl) (λ l. l)) (λ e. kept (λ w. refl) (λ l. l))
 

@@ -1,15 +1,19 @@
--- What a gate lets through: one law for the refusals that every call begins with, and one for what comes after. Assumes nothing.
-use Prim.Native.Nat.{ℕ}
+-- What a gate lets through: one law for the refusals that every call begins with, one for what comes after, and one for payloads that
+-- fit. Assumes nothing.
+use Prim.Native.Nat.{ℕ, _≤_}
 use mathlib.Core.Path.{_≡_, refl, sym, _∙_, ap}
 use mathlib.Core.Bool.{Bool, true, false, not}
 use native.Mathlib.Omega.{arith}
 use Rattle.choice.specs.Pick.{pick, _and_}
+use Rattle.choice.proofs.Picks.{no}
 use Rattle.choice.proofs.Tests.{both, test}
+use Rattle.areas.specs.Areas.{areaSize}
+use Rattle.areas.proofs.Laws.{not-over}
 use Rattle.wholeness.specs.Whole.{whole}
 use Rattle.record.specs.Answers.{Told, refuse}
 use Rattle.answers.specs.Classes.{is}
 use mathlib.Core.List.{List, [], _∷_}
-use Rattle.gates.specs.Gates.{gateOf, gated, Bar, barring, barred, through}
+use Rattle.gates.specs.Gates.{gateOf, gated, Bar, barring, longPayloads, barred, through}
 use Rattle.record.specs.declared.Record.{Record}
 use Rattle.answers.specs.declared.Refusal.{Refusal}
 use Rattle.answers.specs.declared.Refusal.the-variants.{BadArea, Damaged}
@@ -77,6 +81,10 @@ module _ {g : Gate} (d : Gate) (bs : List Bar) (e : g ≡ through d bs) where
   -- and so is one that the gate is handed to
   pub handed : {z : Told} (r : Record) (done : Told) → z ≡ gated g r done → z ≡ gated d r (barring bs r done)
   handed r done p = p ∙ ap (λ (x : Gate). gated x r done) e ∙ in-a-row d bs r done
+
+-- payloads that fit are barred by neither of their two bars
+pub payloads-pass : {c o : ℕ} (bs : List Bar) (r : Record) (done : Told) → c ≤ areaSize → o ≤ areaSize → barring (longPayloads c o bs) r done ≡ barring bs r done
+payloads-pass bs r done p q = sym (no _ (not-over _ p) (no _ (not-over _ q) refl))
 
 -- behind an open row no test holds
 abbrev pub Clear : List Bar → Type 0

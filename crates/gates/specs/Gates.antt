@@ -1,14 +1,15 @@
--- Document 01, "What a call answers": refusals in their order. The refusals 6 and 7 stand before every call's own; a call's own stand
--- in a row, and a payload that is too long is one gate, which every call cites. Assumes nothing.
+-- Document 01, "What a call answers", and document 02, request 1: refusals in their order. The refusals 6 and 7 stand before every
+-- call's own; a call's own stand in a row, and those of payloads that are too long stand here once, for every call to cite. Assumes
+-- nothing.
 use Prim.Native.Nat.{ℕ}
 use mathlib.Core.Bool.{Bool, not}
 use mathlib.Core.List.{List, [], _∷_}
-use Rattle.choice.specs.Pick.{pick, _and_, _or_}
+use Rattle.choice.specs.Pick.{pick, _and_}
 use Rattle.areas.specs.Areas.{long}
 use Rattle.record.specs.Answers.{Told, refuse}
 use Rattle.record.specs.declared.Record.{Record}
 use Rattle.answers.specs.declared.Refusal.{Refusal}
-use Rattle.answers.specs.declared.Refusal.the-variants.{BadArea, Damaged, TooLong}
+use Rattle.answers.specs.declared.Refusal.the-variants.{BadArea, Damaged, LongCandidate, LongRecovery, LongSnapshot}
 use Rattle.wholeness.specs.Whole.{whole}
 use Rattle.gates.specs.declared.Gate.{Gate}
 use Rattle.gates.specs.declared.Gate.the-variants.{Open, Shut}
@@ -35,12 +36,13 @@ abbrev pub barring : List Bar → Record → Told → Told
 barring [] r done = done
 barring (b ∷ bs) r done = pick (b .test) (refuse (b .why) r) (barring bs r done)
 
--- "a payload over 4,096": of the candidate and the recovery payload, and of a snapshot
+-- "a payload over 4,096", and in the place of 8: "14 candidate, 15 recovery, .. in that order where several apply"
 abbrev pub longPayloads : ℕ → ℕ → List Bar → List Bar
-longPayloads candidate recovery next = TooLong whenever (long candidate or long recovery) ∷ next
+longPayloads candidate recovery next = LongCandidate whenever long candidate ∷ LongRecovery whenever long recovery ∷ next
 
+-- "16 snapshot (open, recover, refresh)"
 abbrev pub longSnapshot : ℕ → List Bar → List Bar
-longSnapshot length next = TooLong whenever long length ∷ next
+longSnapshot length next = LongSnapshot whenever long length ∷ next
 
 -- a gate with one more bar behind it
 unfoldable pub barred : Gate → Bool → Refusal → Gate

@@ -26,21 +26,19 @@ impl Gate {
         Gate::Open
     }
 
-    // A candidate or recovery payload that is too long.
+    // A candidate that is too long, and then a recovery payload that is.
     pub fn bar_payloads(self, candidate: usize, recovery: usize) -> Gate
         ensures { λ g. ⌜ g ≡ through self (longPayloads candidate recovery []) ⌝ }
     {
-        self.bar(
-            (areas::SIZE < candidate) | (areas::SIZE < recovery),
-            Refusal::TooLong,
-        )
+        self.bar(areas::SIZE < candidate, Refusal::LongCandidate)
+            .bar(areas::SIZE < recovery, Refusal::LongRecovery)
     }
 
     // A snapshot that is too long.
     pub fn bar_snapshot(self, length: usize) -> Gate
         ensures { λ g. ⌜ g ≡ through self (longSnapshot length []) ⌝ }
     {
-        self.bar(areas::SIZE < length, Refusal::TooLong)
+        self.bar(areas::SIZE < length, Refusal::LongSnapshot)
     }
 }
 

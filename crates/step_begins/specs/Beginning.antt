@@ -26,7 +26,7 @@ begun phase b r =
     spent (withPlace phase 0 0 (withBatch (b .actions) 0 0 false
     (withStaged true (withLengths (r .accepted) (b .candidate) (b .recovery) r))))
 
--- "Begin, begin structural: 1, 3, 8, 9."
+-- "Begin, begin structural: 1, 3, 8, 9.", with 14 and 15 in the place of 8
 abbrev pub beginBars : Record → Beginning → List Bar
 beginBars r b =
     Pending whenever r .staged
@@ -42,7 +42,7 @@ beginOwn structural r b = barring (beginBars r b) r (answer (Done Nothing) (begu
 abbrev pub beginStep : Bool → Bool → Bool → Record → Beginning → Told
 beginStep sized sound structural r b = gated (gateOf sized sound r) r (beginOwn structural r b)
 
--- "Edit replaces both payloads: 2, 8. All else, phase included, is kept."
+-- "Edit replaces both payloads: 2, 8. All else, phase included, is kept.", with 14 and 15 in the place of 8
 abbrev pub editBars : Record → ℕ → ℕ → List Bar
 editBars r candidate recovery = Idle whenever not (r .staged) ∷ longPayloads candidate recovery []
 

@@ -34,7 +34,7 @@ commitOwn r =
     barring (commitBars r) r
     (answer (Done (Three (r .accepted) (r .recovery) (r .entries))) (opening (afterCommit r) (r .candidate)))
 
--- "Refresh: 1, 8"
+-- "Refresh: 1, 8", with 16 in the place of 8
 abbrev pub refreshBars : Record → ℕ → List Bar
 refreshBars r length = Pending whenever r .staged ∷ longSnapshot length []
 

@@ -16,7 +16,7 @@ use Rattle.answers.specs.declared.Refusal.the-variants.{BadArea}
 abbrev pub unopened : Record
 unopened = opening start 0
 
--- "Refuses 6, 8, and then returns" that record
+-- "Refuses 6, 8, and then returns" that record, with 16 in the place of 8
 abbrev pub openBars : Bool → ℕ → List Bar
 openBars sized accepted = BadArea whenever not sized ∷ longSnapshot accepted []
 

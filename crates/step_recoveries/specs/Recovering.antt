@@ -26,7 +26,7 @@ recoverBars r next = Idle whenever not (r .staged) ∷ NotReady whenever unresto
 abbrev pub recoveredTo : ℕ → Record → Told
 recoveredTo accepted r = answer (Done (Three (r .accepted) (r .candidate) (r .recovery))) (opening (standing r) accepted)
 
--- "Recover (exchange area, length): 2; 4 if ..; 8."
+-- "Recover (exchange area, length): 2; 4 if ..; 8.", with 16 in the place of 8
 unfoldable pub recoverOwn : Record → ℕ → Told
 recoverOwn r length = barring (recoverBars r (longSnapshot length [])) r (recoveredTo length r)
 

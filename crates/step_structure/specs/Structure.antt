@@ -36,7 +36,7 @@ structureDone r = pick (boundary (advanced r .phase .number)) (answer Finished (
 abbrev pub storing : ℕ → ℕ → Record → Record
 storing candidate recovery r = withLengths (r .accepted) candidate recovery r
 
--- "Report structure (both payloads): 10, 8."
+-- "Report structure (both payloads): 10, 8.", with 14 and 15 in the place of 8
 abbrev pub reportStructureBars : Record → ℕ → ℕ → ℕ → List Bar
 reportStructureBars r ticket candidate recovery = stale structure ticket r (longPayloads candidate recovery [])
 

@@ -1,6 +1,6 @@
 //! The boundary pairs of the log: its sizes, its head and its room.
 //!
-//! Written from document 01 and the page on the driver's script alone.
+//! Written from documents 01 and 02 and the page on the driver's script alone.
 
 use super::records::{each_call, some_records};
 use super::{without_log, Out};
@@ -81,8 +81,9 @@ pub(super) fn log_room(out: Out) -> io::Result<()> {
         writeln!(out, "{}", line::put(Place::Log, log::COUNT as u64, room - left))?;
         writeln!(out, "ask-structure\nask-structure\nshow\nask-rollback\nask-update")?;
         let long = AREA + 1;
-        writeln!(out, "begin 2:5 2:9 0:0\nbegin {}:5 2:9 0:0\ncommit\nrefresh {}", long, long)?;
-        writeln!(out, "refresh 5\nshow")?;
+        writeln!(out, "begin 2:5 2:9 0:0\nbegin {}:5 2:9 0:0", long)?;
+        writeln!(out, "begin 2:5 {}:9 0:0\nbegin {}:5 {}:9 0:0", long, long, long)?;
+        writeln!(out, "commit\nrefresh {}\nrefresh 5\nshow", long)?;
     }
     without_log(out)
 }

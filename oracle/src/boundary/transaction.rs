@@ -1,7 +1,7 @@
 //! The boundary pairs of the transaction: lengths, actions, serials, revisions
 //! and the sizes of what is lent.
 //!
-//! Written from document 01 and the page on the driver's script alone.
+//! Written from documents 01 and 02 and the page on the driver's script alone.
 
 use super::records::{each_call, some_records};
 use super::Out;
@@ -15,26 +15,50 @@ const PAST_32_BITS: u64 = 1 << 32;
 
 pub(super) fn payload_lengths(out: Out) -> io::Result<()> {
     writeln!(out, "# payload lengths")?;
-    let open = line::open_at(3, 4, "5:5");
     for length in [0, 1, AREA - 1, AREA, AREA + 1, HELD_AREA] {
-        let p = format!("{}:7", length);
-        writeln!(out, "{}\nshow\n{}", line::open_at(0, 0, &p), open)?;
-        writeln!(out, "begin {} 1:1 2:2\n{}\nbegin 1:1 {} 2:2", p, open, p)?;
-        writeln!(out, "{}\nbegin-structural {} {} 2:2", open, p, p)?;
-        writeln!(out, "{}\nbegin-structural 1:1 1:1 2:2", open)?;
-        writeln!(out, "edit {} 1:2\nedit 1:2 {}\nshow", p, p)?;
-        writeln!(out, "ask-structure\nreport-structure 5 2 0 {} 2:8", p)?;
-        writeln!(out, "ask-structure\nreport-structure 6 0 0 2:8 {}", p)?;
-        writeln!(out, "ask-structure\nreport-structure 5 2 0 {} {}\nshow", p, p)?;
-        writeln!(out, "{}\nbegin 1:1 1:1 0:0\nfill {}", open, p)?;
-        writeln!(out, "recover {}\nshow\nrefresh {}\nshow", length, length)?;
+        for (candidate, recovery) in [(length, 1), (1, length), (length, length)] {
+            both_payloads(out, candidate, recovery)?;
+        }
+        snapshot(out, length)?;
     }
+    both_payloads(out, AREA, AREA + 1)?;
+    both_payloads(out, AREA + 1, AREA)?;
+    both_payloads(out, HELD_AREA, AREA + 1)?;
     let cut = [PAST_32_BITS - 1, PAST_32_BITS, PAST_32_BITS + AREA];
     for length in [COUNT_MOST, COUNT_MOST + 1].into_iter().chain(cut).chain([TOP]) {
-        writeln!(out, "{}\nrefresh {}", open, length)?;
+        writeln!(out, "{}\nrefresh {}", opened(), length)?;
         writeln!(out, "begin 1:1 1:1 0:0\nrecover {}\nshow", length)?;
     }
     Ok(())
+}
+
+/// The opening of this part: its first ticket is 5.
+fn opened() -> String {
+    line::open_at(3, 4, "5:5")
+}
+
+/// A candidate and a recovery payload in every call that is given both: begins
+/// with an action too many and without, while another is staged too, edits
+/// while nothing is staged too, and reports with a stale ticket too.
+fn both_payloads(out: Out, candidate: u64, recovery: u64) -> io::Result<()> {
+    let both = format!("{}:7 {}:8", candidate, recovery);
+    for begin in ["begin", "begin-structural"] {
+        writeln!(out, "{}\nedit {}", opened(), both)?;
+        writeln!(out, "{} {} {}:2", begin, both, TABLE + ACTION)?;
+        writeln!(out, "{} {} 2:2\n{} {} 2:2", begin, both, begin, both)?;
+    }
+    writeln!(out, "show\n{}\nbegin-structural 1:1 1:1 2:2\nedit {}", opened(), both)?;
+    writeln!(out, "show\nask-structure\nreport-structure 4 2 0 {}", both)?;
+    writeln!(out, "report-structure 5 0 0 {}\nask-structure", both)?;
+    writeln!(out, "report-structure 6 2 0 {}\nshow", both)
+}
+
+/// A snapshot in every call that is given one.
+fn snapshot(out: Out, length: u64) -> io::Result<()> {
+    let payload = format!("{}:7", length);
+    writeln!(out, "{}\nshow\n{}", line::open_at(0, 0, &payload), opened())?;
+    writeln!(out, "begin 1:1 1:1 0:0\nfill {}\nrefresh {}", payload, length)?;
+    writeln!(out, "recover {}\nshow\nrefresh {}\nshow", length, length)
 }
 
 pub(super) fn action_counts(out: Out) -> io::Result<()> {

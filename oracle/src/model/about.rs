@@ -1,7 +1,7 @@
 //! The table of calls: the word of each in a script, the kind of its event,
 //! what it is lent, its own refusals in their order, and how it answers.
 //!
-//! Written from document 01 and the page on the driver's script alone.
+//! Written from documents 01 and 02 and the page on the driver's script alone.
 
 use crate::answer::{Answer, Refusal};
 use crate::place::Place;
@@ -68,7 +68,7 @@ impl About {
         self.family != Family::Act
     }
 
-    /// The answers that document 01 allows it.
+    /// The answers that the documents allow it.
     pub fn answers(&self) -> Vec<Answer> {
         let common = [
             (Refusal::BadArea, self.kind.is_some() || !self.lent.is_empty()),
@@ -99,28 +99,30 @@ const fn row(
 
 /// What several rows share.
 const BEGIN: &[Place] = &[Candidate, Recovery, Table];
-const BEGINNING: &[Refusal] = &[Pending, Capacity, TooLong, TooMany];
+const BEGINNING: &[Refusal] = &[Pending, Capacity, LongCandidate, LongRecovery, TooMany];
 const BOTH: &[Place] = &[Candidate, Recovery];
+const REPORTING: &[Refusal] = &[Stale, LongCandidate, LongRecovery];
+const EDITING: &[Refusal] = &[Idle, LongCandidate, LongRecovery];
 const ENDED: &[Place] = &[Accepted, Exchange];
 const RETAINED: &[Place] = &[Accepted, Recovery, Exchange];
 const IDS: &[Place] = &[Groups, Status];
 
 /// The table of calls.
 pub static CALLS: [About; 19] = [
-    row(Name::Open, "open", None, &[Accepted], &[TooLong], Act),
+    row(Name::Open, "open", None, &[Accepted], &[LongSnapshot], Act),
     row(Name::Begin, "begin", Some(1), BEGIN, BEGINNING, Act),
     row(Name::BeginStructural, "begin-structural", Some(2), BEGIN, BEGINNING, Act),
     row(Name::AskStructure, "ask-structure", Some(3), &[], &[NotReady, Worn], Ask),
-    row(Name::ReportStructure, "report-structure", Some(4), BOTH, &[Stale, TooLong], Report),
+    row(Name::ReportStructure, "report-structure", Some(4), BOTH, REPORTING, Report),
     row(Name::AskUpdate, "ask-update", Some(5), &[], &[Recovering, Worn], Ask),
     row(Name::ReportUpdate, "report-update", Some(6), &[Table], &[Stale], Report),
     row(Name::AskRollback, "ask-rollback", Some(7), &[], &[Worn], Ask),
     row(Name::ReportRollback, "report-rollback", Some(8), &[Table], &[Stale], Report),
-    row(Name::Edit, "edit", None, BOTH, &[Idle, TooLong], Act),
+    row(Name::Edit, "edit", None, BOTH, EDITING, Act),
     row(Name::Commit, "commit", Some(9), &[Accepted, Candidate], &[Idle, NotReady], Act),
-    row(Name::Recover, "recover", Some(10), ENDED, &[Idle, NotReady, TooLong], Act),
+    row(Name::Recover, "recover", Some(10), ENDED, &[Idle, NotReady, LongSnapshot], Act),
     row(Name::RecoverRetained, "recover-retained", Some(11), RETAINED, &[Idle, NotReady], Act),
-    row(Name::Refresh, "refresh", Some(12), ENDED, &[Pending, TooLong], Act),
+    row(Name::Refresh, "refresh", Some(12), ENDED, &[Pending, LongSnapshot], Act),
     row(Name::Stamp, "stamp", None, &[], &[Pending], Act),
     row(Name::Check, "check", None, &[], &[], Act),
     row(Name::Link, "link", None, IDS, &[NoStatus], Act),

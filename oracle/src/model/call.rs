@@ -68,16 +68,22 @@ impl Call {
         &CALLS[self.name() as usize]
     }
 
-    /// The payloads that a call is given, by their lengths: a snapshot, or the
-    /// candidate and then the recovery payload.
-    pub fn lengths(&self) -> Vec<u64> {
+    /// The candidate and the recovery payload that a call is given.
+    pub fn payloads(&self) -> &Payloads {
         match self {
-            Call::Open { payload, .. } => vec![payload.len() as u64],
-            Call::Recover { length } | Call::Refresh { length } => vec![*length],
             Call::Begin { payloads, .. }
             | Call::ReportStructure { payloads, .. }
-            | Call::Edit(payloads) => payloads.lengths().to_vec(),
-            _ => vec![],
+            | Call::Edit(payloads) => payloads,
+            _ => unreachable!("no other call is given both"),
+        }
+    }
+
+    /// The snapshot that a call is given, by its length.
+    pub fn snapshot(&self) -> u64 {
+        match self {
+            Call::Open { payload, .. } => payload.len() as u64,
+            Call::Recover { length } | Call::Refresh { length } => *length,
+            _ => unreachable!("no other call is given one"),
         }
     }
 
@@ -107,15 +113,10 @@ pub fn actions(pairs: &[u64]) -> u64 {
 }
 
 impl Payloads {
-    fn lengths(&self) -> [u64; 2] {
-        [self.candidate.len() as u64, self.recovery.len() as u64]
-    }
-
     /// Moves both lengths and says which bytes are to be copied.
     pub(super) fn store(&self, record: &mut Record) -> Vec<Write> {
-        let [candidate, recovery] = self.lengths();
-        record.candidate = candidate;
-        record.recovery = recovery;
+        record.candidate = self.candidate.len() as u64;
+        record.recovery = self.recovery.len() as u64;
         vec![
             Write::Bytes(Place::Candidate, self.candidate.clone()),
             Write::Bytes(Place::Recovery, self.recovery.clone()),

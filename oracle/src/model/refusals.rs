@@ -1,7 +1,7 @@
 //! When each of a call's own refusals is given. Their order stands in the table
 //! of calls.
 //!
-//! Written from document 01 alone.
+//! Written from documents 01 and 02 alone.
 
 use super::call::actions;
 use super::{phase, Call, Record};
@@ -22,19 +22,16 @@ fn given(refusal: Refusal, record: &Record, call: &Call) -> bool {
         Refusal::Capacity => record.revision == TOP,
         Refusal::NotReady => not_ready(record, call),
         Refusal::Recovering => !record.updates(),
-        Refusal::TooLong => too_long(call),
         Refusal::TooMany => actions(call.pairs()) > MAX_ACTIONS,
         Refusal::Stale => call.ticket() != record.live,
         Refusal::Worn => gives_ticket(record, call) && record.serial == TOP,
+        Refusal::LongCandidate => call.payloads().candidate.len() as u64 > AREA,
+        Refusal::LongRecovery => call.payloads().recovery.len() as u64 > AREA,
+        Refusal::LongSnapshot => call.snapshot() > AREA,
         Refusal::BadArea | Refusal::Damaged | Refusal::LogFull | Refusal::NoStatus => {
             unreachable!("no refusal of a call's own in the transaction")
         }
     }
-}
-
-/// Whether a payload that the call is given is too long.
-fn too_long(call: &Call) -> bool {
-    call.lengths().iter().any(|length| *length > AREA)
 }
 
 fn not_ready(record: &Record, call: &Call) -> bool {

@@ -1,7 +1,7 @@
 //! The log's example, the example of the page on the driver's script, status
 //! calls, how bad lines are taken, and the scripts that are made.
 //!
-//! Written from document 01 and the page on the driver's script alone.
+//! Written from documents 01 and 02 and the page on the driver's script alone.
 
 use super::{holds, open, play, play_bytes};
 use crate::place::Place;
@@ -28,7 +28,9 @@ fn a_full_log_and_the_order_of_refusals() {
         ("ask-structure", "4"),
         ("ask-structure", "12"),
         ("ask-rollback", "12"),
-        (&format!("begin {}:0 0:0 0:0", AREA + 1), "8"),
+        (&format!("begin {}:0 0:0 0:0", AREA + 1), "14"),
+        (&format!("begin 0:0 {}:0 0:0", AREA + 1), "15"),
+        (&format!("refresh {}", AREA + 1), "16"),
         ("begin 0:0 0:0 0:0", "12"),
         ("commit", "2"),
         ("report-update 0 2 0 0", "10"),
