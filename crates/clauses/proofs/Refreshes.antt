@@ -4,7 +4,6 @@ use mathlib.Core.{Path._≡_, Path.refl, Path.ap, Bool.true, List.List, List.[],
 use native.Mathlib.Omega.{arith}
 use lib.ListN.{getD}
 use borrow.Author.Tests.{eq-eqb, eqb-true, not-true}
-use Rattle.choice.specs.Pick.{_or_}
 use Rattle.choice.proofs.Tests.{never, both, join}
 use Rattle.areas.proofs.Laws.{within, not-over}
 use Rattle.record.specs.{Answers.answer, Fields.top, Fields.withLengths, declared.Record.Record}

@@ -2,15 +2,14 @@
 -- the status bits. Assumes nothing.
 use Prim.Native.Nat.{ℕ}
 use mathlib.Core.Path.{_≡_}
-use mathlib.Core.Bool.{Bool, true, false}
-use mathlib.Core.List.{List, [], _∷_, map}
+use mathlib.Core.Bool.{true, false}
+use mathlib.Core.List.{[], _∷_, map}
 use lib.Dec.{eqb, leb}
 use Rattle.choice.specs.Pick.{_and_, _or_}
 use Rattle.answers.specs.Classes.{Class, refused, successful, granted, ticketed, taken, stepWritten}
 use Rattle.record.specs.declared.Beginning.{Beginning}
 use Rattle.record.specs.declared.Outcome.{Outcome}
 use Rattle.status_bits.specs.Bits.{groupLive, groupSettled, groupPending, markLinked, markCancelled, markInitialized, markFinished}
-use Rattle.calls.specs.Calls.{Call}
 use Rattle.calls.specs.Calls.Work.{structure, update, rollback}
 use Rattle.calls.specs.Calls.Report.{structured, updated, rolledBack}
 use Rattle.calls.specs.Calls.Call.{begin, ask, report, commit, recover, recoverRetained, refresh}
