@@ -55,7 +55,7 @@ pub record CommitClauses (r : Record) (t : Told) : Type 0 where
   -- C193 to C200
   pub ok : t .class ≡ performed → Committed r t
 
--- staged, no entries, the phase none or `Recovered`, and not 8
+-- staged, no entries, the phase none or `Recovered`, and not 16
 pub record CanRecover (r : Record) (n : ℕ) : Type 0 where
   pub staged : r .staged ≡ true
   pub empty : r .entries ≡ 0
@@ -84,7 +84,7 @@ pub record RecoverClauses (r : Record) (n : ℕ) (t : Told) : Type 0 where
   pub c204 : (t .class ≡ performed) ↔ CanRecover r n
   -- an error implies `new == old` (also C217)
   pub c205 : refused (t .class) ≡ true → t .state ≡ r
-  -- which error `recover_with` gives is open upstream: here 2 if not staged, else 4 (or 8)
+  -- which error `recover_with` gives is open upstream: here 2 if not staged, else 4 (or 16)
   pub error : refused (t .class) ≡ true → gained (t .class) ≡ false → t .class ≡ refusal (pick (r .staged) NotReady Idle)
   -- C207 to C211, C218 to C222
   pub ok : t .class ≡ performed → Recovered r n t
@@ -95,7 +95,7 @@ pub record RefreshClauses (r : Record) (n : ℕ) (t : Told) : Type 0 where
   pub c225 : SameBatch r (t .state)
   pub c226 : t .state .revision ≡ r .revision
   pub c227 : SameStaged r (t .state)
-  -- ok exactly if not staged, and not 8
+  -- ok exactly if not staged, and not 16
   pub c228 : (t .class ≡ performed) ↔ ((r .staged ≡ false) × (n ≤ areaSize))
   -- ok implies that the accepted payload is the given one, by its length, and answers with the old one's
   pub c229 : t .class ≡ performed → t .state .accepted ≡ n

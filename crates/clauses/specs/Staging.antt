@@ -22,7 +22,7 @@ use Rattle.clauses.specs.Keeping.{gained, SameBatch, Framed}
 
 -- `new`, opened with a payload of length l, the area of the right size or not
 pub record OpenClauses (sizes : Bool) (given : Opening) (l : ℕ) (t : Told) : Type 0 where
-  -- no refusal but 6 and 8
+  -- no refusal but 6 and 16
   pub fits : (t .class ≡ performed) ↔ ((sizes ≡ true) × (l ≤ areaSize))
   -- `out.wf()`
   pub c107 : whole (t .state) ≡ true
@@ -36,7 +36,7 @@ pub record OpenClauses (sizes : Bool) (given : Opening) (l : ℕ) (t : Told) : T
   -- stronger: the whole record, in which all else is 0, false or none
   pub c111-record : t .class ≡ performed → t .state ≡ opening given l
 
--- when a begin is ok: not staged, `version() < u64::MAX`, and neither 8 nor 9
+-- when a begin is ok: not staged, `version() < u64::MAX`, and none of 14, 15 and 9
 pub record CanBegin (r : Record) (b : Beginning) : Type 0 where
   pub idle : r .staged ≡ false
   pub room : r .revision ≢ top

@@ -37,28 +37,34 @@ fn opened() -> String {
     line::open_at(3, 4, "5:5")
 }
 
-/// A candidate and a recovery payload in every call that is given both: begins
-/// with an action too many and without, while another is staged too, edits
-/// while nothing is staged too, and reports with a stale ticket too.
+/// A candidate and a recovery payload in every call that is given both. Before
+/// each comes what is refused first: an edit while nothing is staged, begins at
+/// the last revision and while something is staged, a report with a stale
+/// ticket; and after the lengths, an action too many.
 fn both_payloads(out: Out, candidate: u64, recovery: u64) -> io::Result<()> {
     let both = format!("{}:7 {}:8", candidate, recovery);
+    let begins = format!("begin {} 2:2\nbegin-structural {} 2:2", both, both);
+    writeln!(out, "{}\n{}", line::open_at(TOP, 4, "5:5"), begins)?;
     for begin in ["begin", "begin-structural"] {
         writeln!(out, "{}\nedit {}", opened(), both)?;
-        writeln!(out, "{} {} {}:2", begin, both, TABLE + ACTION)?;
-        writeln!(out, "{} {} 2:2\n{} {} 2:2", begin, both, begin, both)?;
+        writeln!(out, "{} {} {}:2\n{} {} 2:2", begin, both, TABLE + ACTION, begin, both)?;
     }
-    writeln!(out, "show\n{}\nbegin-structural 1:1 1:1 2:2\nedit {}", opened(), both)?;
-    writeln!(out, "show\nask-structure\nreport-structure 4 2 0 {}", both)?;
+    writeln!(out, "show\n{}\nbegin-structural 1:1 1:1 2:2\n{}", opened(), begins)?;
+    writeln!(out, "edit {}\nshow\nask-structure\nreport-structure 4 2 0 {}", both, both)?;
     writeln!(out, "report-structure 5 0 0 {}\nask-structure", both)?;
     writeln!(out, "report-structure 6 2 0 {}\nshow", both)
 }
 
-/// A snapshot in every call that is given one.
+/// A snapshot in every call that is given one. Before it comes what is refused
+/// first: a recovery while nothing is staged and with an action left, and a
+/// refresh while something is staged.
 fn snapshot(out: Out, length: u64) -> io::Result<()> {
     let payload = format!("{}:7", length);
+    let (recover, refresh) = (format!("recover {}", length), format!("refresh {}", length));
     writeln!(out, "{}\nshow\n{}", line::open_at(0, 0, &payload), opened())?;
-    writeln!(out, "begin 1:1 1:1 0:0\nfill {}\nrefresh {}", payload, length)?;
-    writeln!(out, "recover {}\nshow\nrefresh {}\nshow", length, length)
+    writeln!(out, "fill {}\n{}\n{}\nshow", payload, recover, refresh)?;
+    writeln!(out, "{}\nbegin 1:1 1:1 2:2\n{}\n{}", opened(), recover, refresh)?;
+    writeln!(out, "{}\nbegin 1:1 1:1 0:0\nfill {}\n{}\nshow", opened(), payload, recover)
 }
 
 pub(super) fn action_counts(out: Out) -> io::Result<()> {

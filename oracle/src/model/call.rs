@@ -1,6 +1,6 @@
 //! The calls with what each is given.
 //!
-//! Written from document 01 alone.
+//! Written from documents 01 and 02 alone.
 
 use super::{About, Name, Opening, Outcome, Record, Stamp, Ticket, Work, Write, CALLS};
 use crate::place::Place;

@@ -1,6 +1,5 @@
 -- `step_begins::begin_gate` meets its contract. Assumes nothing.
 use mathlib.Core.List.{[]}
-use Rattle.choice.specs.Pick.{_or_}
 use Rattle.gates.specs.Gates.{longPayloads}
 use Rattle.gates.proofs.Passing.{next, next-row}
 use borrow.Author.Needs.{needs}
