@@ -25,7 +25,7 @@ pub fn limits(out: Out) -> io::Result<()> {
     transaction::serials(out)
 }
 
-/// The boundary pairs of document 01.
+/// The boundary pairs of the documents.
 pub fn boundary(out: Out) -> io::Result<()> {
     limits(out)?;
     transaction::revisions(out)?;
