@@ -1,60 +1,69 @@
--- What a loop that copies or exchanges has done after i turns: the first i of s over d, at any width of element. Assumes nothing.
+-- What a loop that copies or exchanges has done after i turns: the first i of s over d, whatever the elements are. Assumes nothing.
 use mathlib.Core.Path.{_≡_, refl, sym, ap, _∙_}
 use mathlib.Core.List.{List, _++_, append-nil}
-use Prim.Native.Nat.{ℕ, suc, _+_, _≤_, _<_}
-use native.Mathlib.Nat.{le-of-lt}
+use Prim.Native.Nat.{ℕ, suc, _+_, _-_, _≤_, _<_}
+use native.Mathlib.Nat.{le-of-lt, le-refl}
 use native.Mathlib.Numerals.{add-one}
 use native.Mathlib.Omega.{arith}
 use lib.ListN.{length, take, drop, getD, set, length-set}
-use lib.Seq.{length-take-le, take-length, drop-length, take-suc, drop-cons, append-snoc, set-at, getD-at}
+use lib.Seq.{length-take-le, take-length, drop-length, take-suc, drop-cons, append-snoc, set-at, getD-append-add, getD-drop}
 
 -- d with its first i elements replaced by those of s
-abbrev pub over : List ℕ → List ℕ → ℕ → List ℕ
+abbrev pub over : {A : Type 0} → List A → List A → ℕ → List A
 over d s i = take i s ++ drop i d
 
 -- the loop's area l after i turns
-pub record Copying (d s l : List ℕ) (i : ℕ) : Type 0 where
+pub record Copying {A : Type 0} (d s l : List A) (i : ℕ) : Type 0 where
   pub within : i ≤ length s
   pub front : l ≡ over d s i
   pub long : length l ≡ length d
 
-pub copy-none : (d s : List ℕ) → Copying d s d 0
+pub copy-none : {A : Type 0} (d s : List A) → Copying d s d 0
 copy-none d s = record { within = omega arith; front = refl; long = refl }
 
-module _ (d s : List ℕ) where
-  over-suc : (i : ℕ) → i < length s → i < length d → set (over d s i) i (getD s i 0) ≡ over d s (i + 1)
+module _ {A : Type 0} (z : A) (d s : List A) where
+  over-suc : (i : ℕ) → i < length s → i < length d → set (over d s i) i (getD s i z) ≡ over d s (i + 1)
   over-suc i hs hd =
-      ap (λ (r : List ℕ). set (take i s ++ r) i (getD s i 0)) (drop-cons d i 0 hd)
-      ∙ set-at (take i s) (getD d i 0) (drop (suc i) d) (getD s i 0) i (length-take-le i s (le-of-lt hs))
-      ∙ sym (append-snoc (take i s) (getD s i 0) (drop (suc i) d))
-      ∙ ap (λ (r : List ℕ). r ++ drop (suc i) d) (sym (take-suc s i 0 hs))
+      ap (λ (r : List A). set (take i s ++ r) i (getD s i z)) (drop-cons d i z hd)
+      ∙ set-at (take i s) (getD d i z) (drop (suc i) d) (getD s i z) i (length-take-le i s (le-of-lt hs))
+      ∙ sym (append-snoc (take i s) (getD s i z) (drop (suc i) d))
+      ∙ ap (λ (r : List A). r ++ drop (suc i) d) (sym (take-suc s i z hs))
       ∙ ap (λ (k : ℕ). take k s ++ drop k d) (sym (add-one i))
 
-  over-rest : (i : ℕ) → i < length s → i < length d → getD (over d s i) i 0 ≡ getD d i 0
-  over-rest i hs hd =
-      ap (λ (r : List ℕ). getD (take i s ++ r) i 0) (drop-cons d i 0 hd)
-      ∙ getD-at (take i s) (getD d i 0) (drop (suc i) d) 0 i (length-take-le i s (le-of-lt hs))
+  -- what is not yet written over
+  pub over-rest : (i j : ℕ) → i ≤ length s → i ≤ j → getD (over d s i) j z ≡ getD d j z
+  over-rest i j hs l =
+      let e = length-take-le i s hs in
+      let n : j ≡ length (take i s) + (j - i) = omega (arith, e, l) in
+      ap (λ (k : ℕ). getD (over d s i) k z) n
+      ∙ getD-append-add (take i s) (drop i d) (j - i) z
+      ∙ getD-drop i d (j - i) z
+      ∙ ap (λ (k : ℕ). getD d k z) (omega (arith, l))
 
-module _ {d s : List ℕ} where
-  -- one turn of a copy
-  pub copy-more : {l : List ℕ} {i : ℕ} → Copying d s l i → i < length s → i < length d → Copying d s (set l i (getD s i 0)) (i + 1)
-  copy-more {l} {i} v hs hd = record {
+module _ {A : Type 0} {d s : List A} where
+  -- one turn of a copy; z stands past the end
+  pub copy-on : {l : List A} {i : ℕ} (z : A) → Copying d s l i → i < length s → i < length d → Copying d s (set l i (getD s i z)) (i + 1)
+  copy-on {l} {i} z v hs hd = record {
     within = omega arith;
-    front = ap (λ (k : List ℕ). set k i (getD s i 0)) (v .front) ∙ over-suc d s i hs hd;
-    long = length-set l i (getD s i 0) ∙ v .long;
+    front = ap (λ (k : List A). set k i (getD s i z)) (v .front) ∙ over-suc z d s i hs hd;
+    long = length-set l i (getD s i z) ∙ v .long;
   }
 
   -- a copy that is through
-  pub copy-all : {l : List ℕ} {i : ℕ} → Copying d s l i → i ≡ length s → l ≡ s ++ drop (length s) d
-  copy-all v e = v .front ∙ ap (over d s) e ∙ ap (λ (r : List ℕ). r ++ drop (length s) d) (take-length s)
+  pub copy-all : {l : List A} {i : ℕ} → Copying d s l i → i ≡ length s → l ≡ s ++ drop (length s) d
+  copy-all v e = v .front ∙ ap (over d s) e ∙ ap (λ (r : List A). r ++ drop (length s) d) (take-length s)
 
   -- one that leaves nothing of an area of the same length
-  pub copy-whole : {l : List ℕ} {i : ℕ} → Copying d s l i → i ≡ length s → i ≡ length d → l ≡ s
+  pub copy-whole : {l : List A} {i : ℕ} → Copying d s l i → i ≡ length s → i ≡ length d → l ≡ s
   copy-whole v e f =
       copy-all v e
       ∙ ap (λ (k : ℕ). s ++ drop k d) (sym e ∙ f)
-      ∙ ap (λ (r : List ℕ). s ++ r) (drop-length d)
+      ∙ ap (λ (r : List A). s ++ r) (drop-length d)
       ∙ append-nil s
+
+-- one turn of a copy of numbers
+pub copy-more : {d s l : List ℕ} {i : ℕ} → Copying d s l i → i < length s → i < length d → Copying d s (set l i (getD s i 0)) (i + 1)
+copy-more v hs hd = copy-on 0 v hs hd
 
 -- one turn of an exchange: x takes from y what y has not yet given away
 pub swap-more : {d s x y : List ℕ} {i : ℕ} → Copying d s x i → Copying s d y i → i < length s → i < length d
@@ -63,7 +72,7 @@ swap-more {d} {s} {x} {y} {i} v w hs hd = record {
   within = omega arith;
   front =
       ap (λ (k : List ℕ). set k i (getD y i 0)) (v .front)
-      ∙ ap (λ (e : ℕ). set (over d s i) i e) (ap (λ (l : List ℕ). getD l i 0) (w .front) ∙ over-rest s d i hd hs)
-      ∙ over-suc d s i hs hd;
+      ∙ ap (λ (e : ℕ). set (over d s i) i e) (ap (λ (l : List ℕ). getD l i 0) (w .front) ∙ over-rest 0 s d i i (le-of-lt hd) (le-refl i))
+      ∙ over-suc 0 d s i hs hd;
   long = length-set x i (getD y i 0) ∙ v .long;
 }

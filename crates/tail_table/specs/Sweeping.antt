@@ -1,0 +1,113 @@
+-- How the calls of the tail table look at its used records, each once, and what they find: for both forms of the table. Assumes nothing.
+use Prim.Native.Nat.{ℕ, zero, suc, _/_}
+use mathlib.Core.Bool.{Bool, true, not}
+use mathlib.Core.List.{List, [], _∷_}
+use lib.Dec.{eqb, leb, ltb}
+use lib.ListN.{getD, set}
+use Rattle.choice.specs.Pick.{pick, _and_, _or_}
+use Rattle.wholeness.specs.Whole.{whole}
+use Rattle.step_stamps.specs.Stamping.{passes}
+use Rattle.tail_answers.specs.TailAnswers.{TailBar, _whenever_, verdict}
+use Rattle.tail_answers.specs.declared.TailRefusal.the-variants.{BadArea, Damaged, Full, Present, Backward, Absent, Unstamped}
+use Rattle.tail_answers.specs.declared.Verdict.{Verdict}
+use Rattle.tail_answers.specs.declared.Verdict.the-variants.{Done, Refused}
+use Rattle.tail_answers.specs.declared.Finding.{Finding}
+use Rattle.tail_answers.specs.declared.Finding.the-variants as F
+use Rattle.tail_table.specs.Table.{width, mostRecords, otherWords, fileOf, same, before, ascending, stands, savedOf, withOffset, zeroes}
+use Rattle.tail_table.specs.TailCalls.{found}
+use Rattle.tail_table.specs.declared.Tail.{Tail}
+use Rattle.tail_table.specs.declared.File.{File}
+use Rattle.tail_table.specs.declared.Claim.{Claim}
+use Rattle.tail_table.specs.declared.Room.{Room}
+use Rattle.tail_table.specs.declared.Sweep.{Sweep}
+
+-- the room of n words, and of n records: whether it is a table's, and how many records it has
+abbrev pub roomOf : ℕ → Room
+roomOf n = record { sized = not (otherWords n); records = n / width }
+
+abbrev pub roomFor : ℕ → Room
+roomFor n = record { sized = leb n mostRecords; records = n }
+
+-- how many records are looked at: those in use, and none where their count does not fit
+abbrev pub reachOf : Room → ℕ → ℕ
+reachOf room used = pick (room .sized and leb used (room .records)) used 0
+
+-- whether all of some records stand before a pair, how many at their front do, and the last one's pair
+abbrev pub ahead : List Tail → File → Bool
+ahead [] f = true
+ahead (t ∷ ts) f = before (fileOf t) f and ahead ts f
+
+abbrev pub placeOf : List Tail → File → ℕ
+placeOf [] f = 0
+placeOf (t ∷ ts) f = pick (before (fileOf t) f) (suc (placeOf ts f)) 0
+
+abbrev pub nobody : File
+nobody = record { device = 0; inode = 0 }
+
+abbrev pub lastOf : File → List Tail → File
+lastOf f [] = f
+lastOf f (t ∷ ts) = lastOf (fileOf t) ts
+
+-- what is known after some records
+abbrev pub swept : List Tail → File → Sweep
+swept ts f = record {
+  file = f;
+  last = lastOf nobody ts;
+  ordered = ascending ts;
+  ahead = ahead ts f;
+  met = stands ts f;
+  place = placeOf ts f;
+  offset = savedOf ts f;
+}
+
+-- and after one more, which is the number-th
+abbrev pub stepped : Sweep → Tail → ℕ → Sweep
+stepped s t number = record {
+  file = s .file;
+  last = fileOf t;
+  ordered = s .ordered and (eqb number 1 or before (s .last) (fileOf t));
+  ahead = s .ahead and before (fileOf t) (s .file);
+  met = s .met or same (fileOf t) (s .file);
+  place = pick (s .ahead and before (fileOf t) (s .file)) number (s .place);
+  offset = pick (same (fileOf t) (s .file) and not (s .met)) (t .offset) (s .offset);
+}
+
+-- the refusals of the table and of the stamp, by a sweep
+abbrev pub unsoundBy : Room → ℕ → Sweep → Bool
+unsoundBy room used s = ltb (room .records) used or not (s .ordered)
+
+abbrev pub byTable : Room → ℕ → Sweep → List TailBar → List TailBar
+byTable room used s own = BadArea whenever not (room .sized) ∷ Damaged whenever unsoundBy room used s ∷ own
+
+abbrev pub byStamp : Room → ℕ → Sweep → Claim → List TailBar → List TailBar
+byStamp room used s c own =
+    BadArea whenever not (room .sized)
+    ∷ Damaged whenever (unsoundBy room used s or not (whole (c .record)))
+    ∷ Unstamped whenever not (passes (c .record) (c .domain) (c .stamp))
+    ∷ own
+
+-- what the calls answer, by a sweep
+abbrev pub findBy : Room → ℕ → Sweep → ℕ → Claim → Finding
+findBy room used s size c =
+    found (verdict (byStamp room used s c []))
+    (pick (not (s .met)) F.Unknown (pick (ltb size (s .offset)) F.Shrunk (F.Same (s .offset))))
+
+abbrev pub addBy : Room → ℕ → Sweep → Verdict
+addBy room used s = verdict (byTable room used s (Present whenever s .met ∷ Full whenever leb (room .records) used ∷ []))
+
+abbrev pub removeBy : Room → ℕ → Sweep → Verdict
+removeBy room used s = verdict (byTable room used s (Absent whenever not (s .met) ∷ []))
+
+abbrev pub moveBy : Room → ℕ → Sweep → ℕ → Claim → Verdict
+moveBy room used s offset c = verdict (byStamp room used s c (Absent whenever not (s .met) ∷ Backward whenever ltb offset (s .offset) ∷ []))
+
+-- and the records after a move: where it is done, the one at its place has the offset
+abbrev pub placed : Verdict → ℕ → ℕ → List Tail → List Tail
+placed Done i offset ts = set ts i (withOffset offset (getD ts i zeroes))
+placed (Refused why) i offset ts = ts
+
+-- the records without the one at a place
+abbrev pub cut : ℕ → List Tail → List Tail
+cut i [] = []
+cut zero (t ∷ ts) = ts
+cut (suc i) (t ∷ ts) = t ∷ cut i ts
