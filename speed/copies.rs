@@ -2,19 +2,12 @@
 //! target/staticlib/libedge.a, beside Rust's own and beside plain loops with
 //! checked indices.
 //!
-//! Each round times every contender in turn, so that what slows the machine
-//! for a while slows all of them. A line gives the median of the rounds'
-//! ratios to Rust's own, its quartiles, and the median time of one call.
-//!
 //! Within Rust 1.63 and std alone: it is also built by Debian's rustc.
 
-use std::time::Instant;
+mod race;
 
 /// Bytes of an area.
 const AREA: usize = 4096;
-/// How often each contender is timed, and over how many calls at a time.
-const ROUNDS: usize = 2001;
-const CALLS: usize = 100;
 
 // Slices cross the boundary as an address and a length, in Rust as in Rattle.
 #[allow(improper_ctypes)]
@@ -88,22 +81,6 @@ fn areas() -> (Area, Area) {
     (a, b)
 }
 
-/// Nanoseconds of one call, over many.
-fn time(call: fn(&mut [u8], &mut [u8])) -> f64 {
-    let (mut a, mut b) = areas();
-    let start = Instant::now();
-    for _ in 0..CALLS {
-        call(&mut a.0, &mut b.0);
-    }
-    start.elapsed().as_nanos() as f64 / CALLS as f64
-}
-
-/// The value a part of the way up the sorted list.
-fn part(list: &mut [f64], quarters: usize) -> f64 {
-    list.sort_by(|x, y| x.partial_cmp(y).expect("times are numbers"));
-    list[(list.len() - 1) * quarters / 4]
-}
-
 /// All contenders leave the same bytes, or the program stops.
 fn agree(contenders: &[Contender]) {
     let (mut wanted_a, mut wanted_b) = areas();
@@ -117,25 +94,11 @@ fn agree(contenders: &[Contender]) {
 
 fn race(title: &str, contenders: &[Contender]) {
     agree(contenders);
-    let mut times = vec![Vec::new(); contenders.len()];
-    let mut ratios = vec![Vec::new(); contenders.len()];
-    for _ in 0..ROUNDS {
-        let round: Vec<f64> = contenders.iter().map(|(_, call)| time(*call)).collect();
-        for (at, one) in round.iter().enumerate() {
-            times[at].push(*one);
-            ratios[at].push(one / round[0]);
-        }
-    }
-    println!("{} of {} bytes, {} rounds of {} calls", title, AREA, ROUNDS, CALLS);
-    for (at, (name, _)) in contenders.iter().enumerate() {
-        let (low, middle, high) =
-            (part(&mut ratios[at], 1), part(&mut ratios[at], 2), part(&mut ratios[at], 3));
-        let nanoseconds = part(&mut times[at], 2);
-        println!(
-            "  {:<24} {:.2} times ({:.2} to {:.2}), {:.0} ns a call",
-            name, middle, low, high, nanoseconds
-        );
-    }
+    let names: Vec<&str> = contenders.iter().map(|(name, _)| *name).collect();
+    race::race(&format!("{} of {} bytes", title, AREA), &names, |at| {
+        let (mut a, mut b) = areas();
+        race::time(|| contenders[at].1(&mut a.0, &mut b.0))
+    });
 }
 
 fn main() {

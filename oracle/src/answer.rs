@@ -21,6 +21,11 @@ pub enum Refusal {
     LongCandidate = 14,
     LongRecovery = 15,
     LongSnapshot = 16,
+    TableFull = 31,
+    Twice = 32,
+    GoesBack = 33,
+    Absent = 34,
+    NotPassed = 35,
 }
 
 impl Refusal {

@@ -5,8 +5,11 @@
 mod lines;
 mod logs;
 mod records;
+mod stamped;
 mod statuses;
 mod sweep;
+mod tail_lines;
+mod tails;
 mod transaction;
 
 pub use sweep::sweep;
@@ -17,12 +20,21 @@ use std::io::{self, Write};
 
 type Out<'a> = &'a mut dyn Write;
 
-/// The boundary pairs that document 01 wants run: lengths of 4,096 bytes and of
-/// one more, 64 and 65 actions, and the last serials.
+/// The boundary pairs that document 01 wants run, lengths of 4,096 bytes and of
+/// one more, 64 and 65 actions, and the last serials; and those of the tail
+/// table.
 pub fn limits(out: Out) -> io::Result<()> {
     transaction::payload_lengths(out)?;
     transaction::action_counts(out)?;
-    transaction::serials(out)
+    transaction::serials(out)?;
+    tails::tail_sizes(out)?;
+    tails::tail_counts(out)?;
+    tails::tail_orders(out)?;
+    tails::tail_places(out)?;
+    tails::tail_room(out)?;
+    stamped::tail_offsets(out)?;
+    stamped::tail_stamps(out)?;
+    stamped::tail_refusals(out)
 }
 
 /// The boundary pairs of the documents.
@@ -46,7 +58,7 @@ pub fn start(out: Out) -> io::Result<()> {
     for line in line::lend_as_at_start() {
         writeln!(out, "{}", line)?;
     }
-    writeln!(out, "{}", empty())
+    writeln!(out, "{}\n{}", line::tails(0), empty())
 }
 
 /// The opening at 0, 0 with an empty payload.

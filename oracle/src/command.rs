@@ -1,8 +1,8 @@
 //! Reading a line as a command.
 //!
-//! Written from the page on the driver's script alone (and document 01 for
-//! what the calls take). Decisions: a byte that is not ASCII outside a comment
-//! makes a `?` line; no field of the record is narrower here than a u64.
+//! Written from the page on the driver's script alone (and documents 01 and 02
+//! for what the calls take). Decisions: a byte that is not ASCII outside a
+//! comment makes a `?` line; no field of the record is narrower here than a u64.
 
 mod calls;
 mod words;
@@ -10,13 +10,15 @@ mod words;
 use crate::model::{Call, Record};
 use crate::place::Place;
 use crate::sizes::LINE_MOST;
-use words::{numbers, payload, place, up_to, Words};
+use words::{number, numbers, payload, place, up_to, Words};
 
 pub enum Command {
     Lend(Place, u64),
     Put(Place, usize, u64),
     Fill(Vec<u8>),
     Place(Record),
+    /// The count of used tail records.
+    Tails(u64),
     Make(Call),
     Show,
 }
@@ -35,6 +37,7 @@ pub fn command(line: &[u8]) -> Option<Command> {
         (b"put", [name, index, value]) => put(place(name)?, index, value)?,
         (b"fill", [bytes]) => Command::Fill(payload(bytes)?),
         (b"record", row) => Command::Place(record(row)?),
+        (b"tails", [count]) => Command::Tails(number(count)?),
         (b"show", []) => Command::Show,
         (name, rest) => Command::Make(calls::call(name, rest)?),
     })

@@ -1,10 +1,10 @@
 //! Lines of a script made from values: each command whose words a record, an
-//! opening or a stamp decides is written here alone.
+//! opening, a stamp or a file decides is written here alone.
 //!
 //! Written from the page on the driver's script alone.
 
 use crate::model::row::{KIND, RESTORING, STAGED};
-use crate::model::{Opening, Record, Stamp, Work};
+use crate::model::{Claim, File, Opening, Record, Stamp, Tail, Task, Work};
 use crate::place::Place;
 
 /// Numbers parted by single spaces.
@@ -32,11 +32,32 @@ pub fn open(opening: Opening, payload: &str) -> String {
 
 /// The check of a stamp with a domain and a revision.
 pub fn check_of(domain: u64, stamped: u64, revision: u64) -> String {
-    check(domain, Stamp { domain: stamped, revision })
+    check(Claim { domain, stamp: Stamp { domain: stamped, revision } })
 }
 
-pub fn check(domain: u64, stamp: Stamp) -> String {
-    format!("check {} {}", domain, join(&stamp.words()))
+pub fn check(claim: Claim) -> String {
+    format!("check {}", claimed(claim))
+}
+
+fn claimed(claim: Claim) -> String {
+    format!("{} {}", claim.domain, join(&claim.stamp.words()))
+}
+
+/// The count of used tail records.
+pub fn tails(count: u64) -> String {
+    format!("tails {}", count)
+}
+
+/// A call on the tail table.
+pub fn tail(tail: Tail) -> String {
+    let call = format!("{} {}", tail.name().word(), join(&tail.file.words()));
+    match tail.task {
+        Task::Add { offset } => format!("{} {}", call, offset),
+        Task::Remove => call,
+        Task::Find { size: number, claim, .. } | Task::Move { offset: number, claim, .. } => {
+            format!("{} {} {}", call, number, claimed(claim))
+        }
+    }
 }
 
 pub fn record(record: &Record) -> String {
@@ -59,6 +80,24 @@ pub fn row_with(at: usize, number: u64) -> String {
 pub fn bad_rows() -> Vec<String> {
     let kinds = Work::ALL.len() as u64;
     vec![row_with(STAGED, 2), row_with(RESTORING, 2), row_with(KIND, kinds + 1)]
+}
+
+/// Lines on the tail table that are no commands: with a word too few, with one
+/// too many, and with a number past its range.
+pub fn bad_tails() -> Vec<String> {
+    let (offset, size) = (5, 6);
+    let claim = Claim { domain: 3, stamp: Stamp { domain: 3, revision: 0 } };
+    let finds = [false, true].map(|structs| Task::Find { structs, size, claim });
+    let moves = [false, true].map(|structs| Task::Move { structs, offset, claim });
+    let tasks = [&[Task::Add { offset }, Task::Remove], &finds[..], &moves[..]].concat();
+    let file = File { device: 1, inode: 2 };
+    let mut lines = vec![tails(1)];
+    lines.extend(tasks.into_iter().map(|task| tail(Tail { file, task })));
+    let bad = |line: String| {
+        let fewer = line.rsplit_once(' ').expect("a word and numbers").0;
+        [fewer.to_string(), format!("{} 1", line), format!("{} 18446744073709551616", fewer)]
+    };
+    lines.into_iter().flat_map(bad).collect()
 }
 
 /// Lends what is lent at the start, a line each.

@@ -18,6 +18,7 @@ mod reach;
 mod script;
 mod sizes;
 mod status;
+mod tails;
 mod tally;
 #[cfg(test)]
 mod tests;
@@ -33,7 +34,8 @@ const USAGE: &str = "usage:
   oracle start               prints the lines that lend what the driver lends at
                              its start, and that open
   oracle boundary            prints the fixed script of boundary cases
-  oracle limits              prints its part on lengths, actions and serials
+  oracle limits              prints its part on lengths, actions, serials and
+                             the tail table
   oracle sweep               prints the fixed script of all small records
   oracle reach               prints a short script that reaches every call with
                              every answer, through a log and without one

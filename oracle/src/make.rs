@@ -1,8 +1,8 @@
 //! Makes seeded random scripts that reach every phase and every answer.
 //!
-//! Written from document 01 and the page on the driver's script alone. The
-//! maker plays each line on its own model as it goes, so that it can continue
-//! sensibly (the right ticket, the due asking) as well as not.
+//! Written from documents 01 and 02 and the page on the driver's script alone.
+//! The maker plays each line on its own model as it goes, so that it can
+//! continue sensibly (the right ticket, the due asking) as well as not.
 
 mod bad;
 mod episodes;
@@ -10,6 +10,7 @@ mod lines;
 mod logs;
 mod odd;
 mod statuses;
+mod tails;
 
 use crate::dice::Dice;
 use crate::line;
@@ -75,7 +76,7 @@ impl Maker<'_> {
         if self.dice.chance(80) {
             self.right_sizes()?;
         }
-        match self.dice.below(20) {
+        match self.dice.below(22) {
             0..=4 => self.chain()?,
             5..=8 => self.placed()?,
             9 | 10 => self.damaged()?,
@@ -85,22 +86,23 @@ impl Maker<'_> {
             16 => self.status()?,
             17 => self.top_revision()?,
             18 => self.nearly_worn()?,
+            19 | 20 => self.tails()?,
             _ => self.odd_lines()?,
         }
         Ok(())
     }
 
     fn right_sizes(&mut self) -> io::Result<()> {
-        for place in Place::of_transaction() {
-            if self.lent(*place) != place.lent_at_start() {
-                self.lend(*place, place.lent_at_start())?;
+        for place in [Place::of_transaction(), &[Place::Tails]].concat() {
+            if self.lent(place) != place.lent_at_start() {
+                self.lend(place, place.lent_at_start())?;
             }
         }
         if self.lent(Place::Groups) != self.lent(Place::Status) && self.dice.chance(50) {
             self.lend(Place::Groups, Place::Groups.lent_at_start())?;
             self.lend(Place::Status, Place::Status.lent_at_start())?;
         }
-        Ok(())
+        self.right_tails()
     }
 
     fn record(&self) -> &Record {

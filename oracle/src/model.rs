@@ -1,9 +1,9 @@
 //! The calls, the record and the steps of the transaction.
 //!
-//! Written from document 01 alone. A step looks at a record and a call and
-//! says either which refusal is given or what is answered and left; it changes
-//! nothing itself. Sizes (6), wholeness (7) and the log (12) are dealt with by
-//! the driver, which asks for a step only where none of 6 and 7 is given.
+//! Written from documents 01 and 02 alone. A step looks at a record and a call
+//! and says either which refusal is given or what is answered and left; it
+//! changes nothing itself. Sizes (6), wholeness (7) and the log (12) are dealt
+//! with by the driver, which asks for a step only where none of 6 and 7 is given.
 
 mod about;
 mod asks;
@@ -17,12 +17,15 @@ mod record;
 mod refusals;
 mod reports;
 pub mod row;
+mod tail;
 
 pub use about::{About, Name, CALLS};
 pub use call::{Call, Mark, Payloads};
-pub use opening::{Opening, Stamp};
+pub use ends::passes;
+pub use opening::{Claim, Opening, Stamp};
 pub use outcome::Outcome;
 pub use record::{Record, Ticket, Work};
+pub use tail::{File, Tail, Task};
 
 use crate::answer::{Answer, Answered, Refusal};
 use crate::place::Place;
@@ -80,7 +83,9 @@ pub fn step(record: &Record, call: &Call) -> Result<Step, Refusal> {
         Call::RecoverRetained => ends::recover_retained(record),
         Call::Refresh { length } => ends::refresh(record, *length),
         Call::Stamp { domain } => ends::stamp(record, *domain),
-        Call::Check { domain, stamp } => ends::check(record, *domain, *stamp),
-        Call::Status { .. } => unreachable!("status calls have their own file"),
+        Call::Check(claim) => ends::check(record, *claim),
+        Call::Status { .. } | Call::Tail(_) => {
+            unreachable!("status and the tail table have their own files")
+        }
     })
 }

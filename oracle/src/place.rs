@@ -1,12 +1,12 @@
 //! What can be lent: the name of each in a script, how much of it the driver
 //! holds and lends at its start, and which sizes are right.
 //!
-//! Written from document 01 and the page on the driver's script alone.
+//! Written from documents 01 and 02 and the page on the driver's script alone.
 
 use crate::sizes::*;
 use std::fmt;
 
-/// Four areas, the table, the log, groups and status.
+/// Four areas, the table, the log, groups, status and the tail table.
 #[derive(Clone, Copy, Debug, PartialEq, Eq)]
 pub enum Place {
     Accepted,
@@ -17,10 +17,11 @@ pub enum Place {
     Log,
     Groups,
     Status,
+    Tails,
 }
 
 impl Place {
-    pub const ALL: [Place; 8] = [
+    pub const ALL: [Place; 9] = [
         Place::Accepted,
         Place::Candidate,
         Place::Recovery,
@@ -29,6 +30,7 @@ impl Place {
         Place::Log,
         Place::Groups,
         Place::Status,
+        Place::Tails,
     ];
 
     /// The areas and the table: what the transaction is lent.
@@ -59,6 +61,7 @@ impl Place {
             Place::Log => ("l", HELD_LOG, 0),
             Place::Groups => ("g", HELD_IDS, LENT_IDS),
             Place::Status => ("s", HELD_IDS, LENT_IDS),
+            Place::Tails => ("f", HELD_TAILS, TAILS_MOST),
         }
     }
 
@@ -69,13 +72,14 @@ impl Place {
             Place::Table => size == TABLE,
             Place::Log => (LOG_LEAST..=LOG_MOST).contains(&size) && (size - LOG_HEAD) % EVENT == 0,
             Place::Groups | Place::Status => (1..=IDS_MOST).contains(&size),
+            Place::Tails => size <= TAILS_MOST && size % TAIL == 0,
         }
     }
 
     /// The largest element.
     pub fn most(self) -> u64 {
         match self {
-            Place::Table | Place::Log => TOP,
+            Place::Table | Place::Log | Place::Tails => TOP,
             _ => BYTE_MOST,
         }
     }

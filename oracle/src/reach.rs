@@ -47,8 +47,7 @@ pub fn kinds() -> BTreeSet<Kind> {
 /// The kind of a call that was made, a log being lent or not.
 pub fn kind(made: &Made, lent: bool) -> Kind {
     let column = counted(made.name, &made.answered);
-    let about = &CALLS[made.name as usize];
-    (made.name, column, lent && possible(about, column, true))
+    (made.name, column, lent && possible(made.name.about(), column, true))
 }
 
 /// An episode: its lines up to the last call that reaches something first,

@@ -1,7 +1,7 @@
-//! Every limit and size of document 01 and of the page on the driver's script,
-//! by name.
+//! Every limit and size of documents 01 and 02 and of the page on the driver's
+//! script, by name.
 //!
-//! Written from those two alone.
+//! Written from those three alone.
 
 /// The largest u64: no begin is made at this revision, and no serial is given
 /// past it.
@@ -30,6 +30,11 @@ pub const LOG_MOST: u64 = LOG_HEAD + EVENT * ROOM_MOST;
 /// The most ids of the group and status bytes.
 pub const IDS_MOST: u64 = 256;
 
+/// Words of a tail record: device, inode and offset.
+pub const TAIL: u64 = 3;
+/// The most words of the tail table.
+pub const TAILS_MOST: u64 = 768;
+
 /// Bytes that the driver holds of each area.
 pub const HELD_AREA: u64 = 5000;
 /// Words that it holds of the table.
@@ -40,6 +45,8 @@ pub const HELD_LOG: u64 = 5000;
 pub const HELD_IDS: u64 = 300;
 /// Bytes of groups and of status that are lent at the start.
 pub const LENT_IDS: u64 = 64;
+/// Words that it holds of the tail table.
+pub const HELD_TAILS: u64 = 800;
 
 /// The most bytes of a line.
 pub const LINE_MOST: u64 = 1000;

@@ -5,16 +5,25 @@
 use crate::answer::{Answer, Answered};
 use crate::model::{phase, About, Name, CALLS};
 use crate::script::Made;
+use crate::tails;
 use std::collections::{BTreeMap, BTreeSet};
 use std::fmt;
 
-/// A column of the table. Checking a stamp answers yes or no, which are
+/// The characters of a call's word in the table, and of a cell.
+const WORD: usize = 17;
+const CELL: usize = 8;
+
+/// A column of the table. Checking a stamp answers yes or no, and finding a
+/// file that it is the same, that it shrank or that it is unknown; these are
 /// counted in columns of their own.
 #[derive(Clone, Copy, Debug, PartialEq, Eq, PartialOrd, Ord)]
 pub enum Column {
     Done,
     Yes,
     No,
+    Same,
+    Shrunk,
+    Unknown,
     Other(u64),
 }
 
@@ -24,6 +33,9 @@ impl fmt::Display for Column {
             Column::Done => to.pad(&Answer::Done.number().to_string()),
             Column::Yes => to.pad("yes"),
             Column::No => to.pad("no"),
+            Column::Same => to.pad("same"),
+            Column::Shrunk => to.pad("shrunk"),
+            Column::Unknown => to.pad("unknown"),
             Column::Other(number) => to.pad(&number.to_string()),
         }
     }
@@ -36,21 +48,34 @@ pub fn column_of(answer: Answer) -> Column {
     }
 }
 
+/// The columns of a call's answer 0, with the first value of each; none where
+/// one column is enough.
+fn told_apart(name: Name) -> &'static [(u64, Column)] {
+    match name {
+        Name::Check => &[(1, Column::Yes), (0, Column::No)],
+        Name::FindTail | Name::FindStruct => &[
+            (tails::SAME, Column::Same),
+            (tails::SHRUNK, Column::Shrunk),
+            (tails::UNKNOWN, Column::Unknown),
+        ],
+        _ => &[],
+    }
+}
+
 /// The column in which an answer is counted.
 pub fn counted(name: Name, answered: &Answered) -> Column {
-    match (name, answered.answer) {
-        (Name::Check, Answer::Done) if answered.values == [1] => Column::Yes,
-        (Name::Check, Answer::Done) => Column::No,
-        (_, answer) => column_of(answer),
-    }
+    let first = answered.values.first();
+    let apart = told_apart(name).iter().find(|(value, _)| Some(value) == first);
+    apart.map_or(column_of(answered.answer), |(_, column)| *column)
 }
 
 /// The columns that the documents allow a call.
 pub fn allowed(about: &About) -> BTreeSet<Column> {
     let mut columns: BTreeSet<Column> = about.answers().into_iter().map(column_of).collect();
-    if about.name == Name::Check {
+    let apart = told_apart(about.name);
+    if !apart.is_empty() {
         columns.remove(&Column::Done);
-        columns.extend([Column::Yes, Column::No]);
+        columns.extend(apart.iter().map(|(_, column)| column));
     }
     columns
 }
@@ -106,20 +131,21 @@ impl Tally {
     fn row(&self, about: &About) -> String {
         let allowed = allowed(about);
         let cell = |column| match self.at(about.name, column) {
-            0 if !allowed.contains(&column) => format!("{:>7}", "-"),
-            count => format!("{:>7}", count),
+            0 if !allowed.contains(&column) => format!("{:>CELL$}", "-"),
+            count => format!("{:>CELL$}", count),
         };
         let cells: Vec<String> = columns().into_iter().map(cell).collect();
-        format!("{:<17}{}\n", about.word, cells.concat())
+        format!("{:<WORD$}{}\n", about.word, cells.concat())
     }
 
     pub fn text(&self) -> String {
-        let heads: Vec<String> = columns().iter().map(|column| format!("{:>7}", column)).collect();
+        let heads: Vec<String> =
+            columns().iter().map(|column| format!("{:>CELL$}", column)).collect();
         let rows: Vec<String> = CALLS.iter().map(|about| self.row(about)).collect();
         let phases: Vec<String> = self.phases.iter().map(|count| count.to_string()).collect();
         let (empty, strange) = self.faults();
         format!(
-            "{:<17}{}\n{}calls in phases 0 to {}: {}\nallowed and empty: {}\n\
+            "{:<WORD$}{}\n{}calls in phases 0 to {}: {}\nallowed and empty: {}\n\
              filled and not allowed: {}\n",
             "call",
             heads.concat(),

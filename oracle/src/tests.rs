@@ -6,6 +6,7 @@ mod reaching;
 mod requests;
 mod scripts;
 mod shrinking;
+mod tails;
 
 use crate::model::{Opening, Record};
 use crate::{line, script};

@@ -15,6 +15,7 @@ pub fn shown(driver: &Driver) -> Vec<String> {
         format!("table {}", digest(driver.table.iter().copied())),
         format!("log {}", digest(driver.log.iter().copied())),
         format!("status {} {}", of_bytes(&driver.groups), of_bytes(&driver.status)),
+        format!("tails {} {}", driver.used, digest(driver.tails.iter().copied())),
     ]
 }
 

@@ -8,6 +8,8 @@ use record::Record;
 use record::Reporting;
 use seeds::Seeded;
 use step_stamps::SaveStamp;
+use tail_table::File;
+use tail_table::Tail;
 
 pub enum Command {
     // an empty line or a comment
@@ -15,17 +17,20 @@ pub enum Command {
     // a line that is no command
     Bad,
     Show,
-    // what is lent of an area from here on, one element, a payload in the exchange area, the record: they are not answered
+    // what is lent of an area from here on, one element, a payload in the exchange area, the record, the count of used tail records:
+    // they are not answered
     Lend { area: Area, count: usize },
     Put { area: Area, at: usize, value: u64 },
     Fill(Seeded),
     Record(Record),
+    Tails(usize),
     Open { opening: Opening, payload: Seeded },
     Bring { payloads: Payloads, call: Bringing },
     Work(Working),
     End(Ending),
     Plan(Planning),
     Mark(Marking),
+    Tail(Tailing),
 }
 
 // The candidate payload and the recovery payload.
@@ -76,4 +81,24 @@ pub enum Marking {
     Link { id: u64, domain: bool },
     Initialize(u64),
     Cancel(u64),
+}
+
+// Calls of the tail table. Finding and moving are given a stamp and the domain that it is checked against, and are made on flat words or
+// on structs.
+pub enum Tailing {
+    Add(Tail),
+    Remove(File),
+    Find {
+        structs: bool,
+        file: File,
+        size: u64,
+        domain: u64,
+        stamp: SaveStamp,
+    },
+    Move {
+        structs: bool,
+        tail: Tail,
+        domain: u64,
+        stamp: SaveStamp,
+    },
 }

@@ -6,6 +6,7 @@ use super::Ending;
 use super::Marking;
 use super::Payloads;
 use super::Planning;
+use super::Tailing;
 use super::Working;
 use holdings::Area;
 use record::Opening;
@@ -15,6 +16,7 @@ use row_reading::Row;
 use rows::FIELDS;
 use seeds::Seeded;
 use step_stamps::SaveStamp;
+use tail_table::Tail;
 
 // The numbers of a line in a row, as many as the longest has, which gives a record.
 type Numbers = [u64; FIELDS];
@@ -72,6 +74,7 @@ fn preparing(key: u8, n: Numbers) -> Command {
         b'l' => lend(area, at),
         b'p' => put(area, at, n[2]),
         b'f' => Command::Fill(seeded(n[0], n[1])),
+        b't' => Command::Tails(n[0] as usize),
         _ => match row_reading::record_of(n) {
             Row::Fits(given) => Command::Record(given),
             Row::Misfit => Command::Bad,
@@ -142,15 +145,19 @@ fn ending(key: u8, length: usize) -> Ending {
     }
 }
 
+fn stamp(domain: u64, revision: u64) -> SaveStamp {
+    SaveStamp {
+        domain: domain,
+        revision: revision,
+    }
+}
+
 fn planning(key: u8, n: Numbers) -> Planning {
     match key {
         b's' => Planning::Stamp(n[0]),
         _ => Planning::Check {
             domain: n[0],
-            stamp: SaveStamp {
-                domain: n[1],
-                revision: n[2],
-            },
+            stamp: stamp(n[1], n[2]),
         },
     }
 }
@@ -166,13 +173,42 @@ fn marking(key: u8, id: u64, flag: u64) -> Marking {
     }
 }
 
+fn tail(device: u64, inode: u64, offset: u64) -> Tail {
+    Tail {
+        device: device,
+        inode: inode,
+        offset: offset,
+    }
+}
+
+fn tailing(key: u8, n: Numbers) -> Tailing {
+    let tail = tail(n[0], n[1], n[2]);
+    match key {
+        b'+' => Tailing::Add(tail),
+        b'-' => Tailing::Remove(tail.file()),
+        b'F' | b'G' => Tailing::Find {
+            structs: key == b'G',
+            file: tail.file(),
+            size: n[2],
+            domain: n[3],
+            stamp: stamp(n[4], n[5]),
+        },
+        _ => Tailing::Move {
+            structs: key == b'N',
+            tail: tail,
+            domain: n[3],
+            stamp: stamp(n[4], n[5]),
+        },
+    }
+}
+
 // The command of a key, which is the byte before its template (script), with its numbers; a key of no template is Bad. Numbers are in
 // their ranges by the template, but for those that go by the area, and the number of a ticket of kind 0: these are judged here. So
 // every number of a command is in its range, by the code; no contract says so.
 pub fn of_key(key: u8, n: Numbers) -> Command {
     match key {
         b'.' => Command::Show,
-        b'l' | b'p' | b'f' | b'=' => preparing(key, n),
+        b'l' | b'p' | b'f' | b't' | b'=' => preparing(key, n),
         b'o' => open(n),
         b'b' => begin(false, n),
         b'B' => begin(true, n),
@@ -182,6 +218,7 @@ pub fn of_key(key: u8, n: Numbers) -> Command {
         b'c' | b'r' | b'R' | b'n' => Command::End(ending(key, n[0] as usize)),
         b's' | b'?' => Command::Plan(planning(key, n)),
         b'L' | b'I' | b'C' => Command::Mark(marking(key, n[0], n[1])),
+        b'+' | b'-' | b'F' | b'G' | b'M' | b'N' => Command::Tail(tailing(key, n)),
         _ => Command::Bad,
     }
 }

@@ -6,7 +6,7 @@ ghost use mathlib.Core.Path.{_≡_};
 ghost use Rattle.text.specs.Writing.{page, putAll};
 ghost use Rattle.digest_lines.specs.DigestTexts.{digestsText};
 
-// The digests of all that is held.
+// The digests of all that is held, and the count of used tail records.
 pub struct Digests {
     pub accepted: u64,
     pub candidate: u64,
@@ -16,9 +16,11 @@ pub struct Digests {
     pub log: u64,
     pub groups: u64,
     pub status: u64,
+    pub used: u64,
+    pub tails: u64,
 }
 
-// Four lines: the areas, the table, the log, and the status part's bytes.
+// Five lines: the areas, the table, the log, the status part's bytes, and the tail table.
 pub fn put_digests(buffer: &mut [u8], written: usize, d: Digests) -> usize
     ensures { λ n. ⌜ page (now (buffer .exit)) n ≡ putAll (page (now (buffer .entry)) written) (digestsText d) ⌝ }
 {
@@ -26,5 +28,6 @@ pub fn put_digests(buffer: &mut [u8], written: usize, d: Digests) -> usize
     let at = put_line(buffer, written, b"bytes", &bytes);
     let at = put_line(buffer, at, b"table", &[d.table]);
     let at = put_line(buffer, at, b"log", &[d.log]);
-    put_line(buffer, at, b"status", &[d.groups, d.status])
+    let at = put_line(buffer, at, b"status", &[d.groups, d.status]);
+    put_line(buffer, at, b"tails", &[d.used, d.tails])
 }

@@ -5,6 +5,8 @@ use commands::Command;
 use holdings::Area;
 use holdings::HELD_AREA;
 use holdings::HELD_MARKS;
+use tail_table::MOST_RECORDS;
+use tail_table::WIDTH;
 use transaction::AREA;
 use transaction::TABLE;
 
@@ -18,6 +20,9 @@ pub(crate) const SIDE: usize = THIRD + HELD_MARKS;
 // How many bytes of the groups and of the status are lent at the start.
 const MARKS: usize = 64;
 
+// How many words of the tail table are: those of the most records that it has.
+const TAILS: usize = MOST_RECORDS * WIDTH;
+
 // How many elements of each area are lent.
 pub(crate) struct Lent {
     pub(crate) accepted: usize,
@@ -28,10 +33,11 @@ pub(crate) struct Lent {
     pub(crate) log: usize,
     pub(crate) groups: usize,
     pub(crate) status: usize,
+    pub(crate) tails: usize,
 }
 
 impl Lent {
-    // At the start: areas and a table of the sizes that calls ask for, and no log.
+    // At the start: areas and tables of the sizes that calls ask for, and no log.
     pub(crate) fn first() -> Lent {
         Lent {
             accepted: AREA,
@@ -42,6 +48,7 @@ impl Lent {
             log: 0,
             groups: MARKS,
             status: MARKS,
+            tails: TAILS,
         }
     }
 
@@ -59,6 +66,7 @@ impl Lent {
             Area::Log => self.log = count,
             Area::Groups => self.groups = count,
             Area::Status => self.status = count,
+            Area::Tails => self.tails = count,
         }
         self
     }

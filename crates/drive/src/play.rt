@@ -1,5 +1,5 @@
-// Running a script, line after line, and what each command is handed of what the driver holds: both sides of bytes, the table t and the
-// log l.
+// Running a script, line after line, and what each command is handed of what the driver holds: both sides of bytes, the table t, the log l,
+// and the tail table f with the count of its used records.
 use super::bring::bring;
 use super::bring::open;
 use super::end::end;
@@ -8,9 +8,11 @@ use super::held::Lent;
 use super::held::SIDE;
 use super::output::ROOM;
 use super::output::put_told;
+use super::prepare::count_tails;
 use super::prepare::fill_exchange;
 use super::prepare::put;
 use super::show::show;
+use super::tail::tail;
 use super::telling::Told;
 use super::work::work;
 use answers::Answer;
@@ -22,6 +24,7 @@ use console::next_line;
 use console::start;
 use holdings::HELD_LOG;
 use holdings::HELD_TABLE;
+use holdings::HELD_TAILS;
 use record::Opening;
 use record::Record;
 use record::Stepped;
@@ -105,12 +108,17 @@ fn tell(
     right: &mut [u8; SIDE],
     t: &mut [u64; HELD_TABLE],
     l: &mut [u64; HELD_LOG],
+    f: &mut [u64; HELD_TAILS],
+    used: &mut usize,
 ) -> Told {
+    let record = stepped.state;
     match command {
-        Command::Show => show(left, right, t, l),
+        Command::Show => show(left, right, t, l, f, *used),
         Command::Mark(which) => mark(which, lent, left, right),
-        Command::Put { area, at, value } => put(area, at, value, left, right, t, l),
+        Command::Tail(which) => tail(which, record, lent, f, used),
+        Command::Put { area, at, value } => put(area, at, value, left, right, t, l, f),
         Command::Fill(named) => fill_exchange(right, named),
+        Command::Tails(count) => count_tails(used, count),
         _ => plain(command, stepped),
     }
 }
@@ -168,6 +176,8 @@ pub(crate) fn play() {
     let mut right = [0u8; SIDE];
     let mut t = [0u64; HELD_TABLE];
     let mut l = [0u64; HELD_LOG];
+    let mut f = [0u64; HELD_TAILS];
+    let mut used = 0;
     let mut scratch = [0u8; SIDE];
     let mut pairs = [0u64; HELD_TABLE];
     let mut line = [0u8; LINE];
@@ -206,6 +216,8 @@ pub(crate) fn play() {
             &mut right,
             &mut t,
             &mut l,
+            &mut f,
+            &mut used,
         );
         record = stepped.state;
         lent = lent.after(command);

@@ -1,4 +1,4 @@
-// The commands that set what is held: one element, lent or not, and a payload in the exchange area.
+// The commands that set what is held: one element, lent or not, a payload in the exchange area, and the count of used tail records.
 use super::held::SECOND;
 use super::held::SIDE;
 use super::held::THIRD;
@@ -8,6 +8,7 @@ use holdings::Area;
 use holdings::HELD_AREA;
 use holdings::HELD_LOG;
 use holdings::HELD_TABLE;
+use holdings::HELD_TAILS;
 use seeds::Seeded;
 use seeds::fill;
 
@@ -44,17 +45,24 @@ pub(crate) fn put(
     right: &mut [u8; SIDE],
     t: &mut [u64; HELD_TABLE],
     l: &mut [u64; HELD_LOG],
+    f: &mut [u64; HELD_TAILS],
 ) -> Told {
     match area {
         Area::Accepted | Area::Recovery | Area::Groups => put_byte(left, start(area), at, value),
         Area::Candidate | Area::Exchange | Area::Status => put_byte(right, start(area), at, value),
         Area::Table => put_word(t, at, value),
         Area::Log => put_word(l, at, value),
+        Area::Tails => put_word(f, at, value),
     }
     Told::Nothing
 }
 
 pub(crate) fn fill_exchange(right: &mut [u8], named: Seeded) -> Told {
     fill(part(right, SECOND, HELD_AREA), named);
+    Told::Nothing
+}
+
+pub(crate) fn count_tails(used: &mut usize, count: usize) -> Told {
+    *used = count;
     Told::Nothing
 }

@@ -1,8 +1,20 @@
-// Copying and exchanging lent bytes, for callers in C or Rust: what `copies` and `areas` have, under names of C's. A slice crosses as
-// the address of its first byte and its length.
+// For callers in C or Rust, under names of C's: copying and exchanging lent bytes, as `copies` and `areas` have it, and finding and moving
+// in a tail table, as `tails` has it. A slice crosses as the address of its first element and its length; numbers cross as they are, so
+// that a tail call is given the accepted revision and the stamp's: the settings are idle, in the domain 0.
+use record::Opening;
+use step_stamps::SaveStamp;
+use tail_answers::Finding;
+use tail_answers::Verdict;
+use tail_table::Claim;
+use tail_table::File;
+use tail_table::Tail;
 ghost use mathlib.Core.Path.{_≡_};
 ghost use mathlib.Core.List.{_∷_, []};
 ghost use Rattle.areas.specs.Areas.{copied, exchanged};
+ghost use Rattle.tail_answers.specs.TailAnswers.{saysVerdict};
+ghost use Rattle.tail_table.specs.Table.{tailOf};
+ghost use Rattle.tail_table.specs.TailCalls.{findOf, moveOf};
+ghost use Rattle.edge.specs.Edge.{fileAt, claimAt, offsetOr};
 
 // All bytes of src over the first of dst, where they fit.
 #[no_mangle]
@@ -18,4 +30,70 @@ pub extern "C" fn edge_exchange(a: &mut [u8], b: &mut [u8])
     ensures { λ _. ⌜ now (a .exit) ∷ now (b .exit) ∷ [] ≡ exchanged (now (a .entry)) (now (b .entry)) ⌝ }
 {
     areas::exchange(a, b);
+}
+
+fn claim(accepted: u64, stamped: u64) -> Claim
+    ensures { λ c. ⌜ c ≡ claimAt accepted stamped ⌝ }
+{
+    let opening = Opening {
+        revision: accepted,
+        serial: 0,
+    };
+    Claim {
+        record: opening.opened(0),
+        domain: 0,
+        stamp: SaveStamp {
+            domain: 0,
+            revision: stamped,
+        },
+    }
+}
+
+// From where a file is read on: its saved offset where it may be the same, and else the largest u64.
+#[no_mangle]
+pub extern "C" fn edge_find_tail(
+    words: &[u64],
+    used: usize,
+    device: u64,
+    inode: u64,
+    size: u64,
+    accepted: u64,
+    stamped: u64,
+) -> u64
+    ensures { λ r. ⌜ r ≡ offsetOr (findOf (now (words .entry)) used (fileAt device inode) size (claimAt accepted stamped)) ⌝ }
+{
+    let file = File {
+        device: device,
+        inode: inode,
+    };
+    match tails::find(words, used, file, size, claim(accepted, stamped)) {
+        Finding::Same(offset) => offset,
+        Finding::Shrunk => u64::MAX,
+        Finding::Unknown => u64::MAX,
+        Finding::Refused(_) => u64::MAX,
+    }
+}
+
+// A file's saved offset moved on; it answers 0, or the refusal's number.
+#[no_mangle]
+pub extern "C" fn edge_move_tail(
+    words: &mut [u64],
+    used: usize,
+    device: u64,
+    inode: u64,
+    offset: u64,
+    accepted: u64,
+    stamped: u64,
+) -> u64
+    ensures { λ r. ⌜ r ∷ now (words .exit) ≡ saysVerdict (moveOf (now (words .entry)) used (tailOf device inode offset) (claimAt accepted stamped) .answer) .number ∷ moveOf (now (words .entry)) used (tailOf device inode offset) (claimAt accepted stamped) .words ⌝ }
+{
+    let tail = Tail {
+        device: device,
+        inode: inode,
+        offset: offset,
+    };
+    match tails::move_offset(words, used, tail, claim(accepted, stamped)) {
+        Verdict::Done => 0,
+        Verdict::Refused(why) => why.number(),
+    }
 }

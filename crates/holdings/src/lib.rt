@@ -4,7 +4,8 @@ use rows::TOP8;
 ghost use mathlib.Core.Path.{_≡_};
 ghost use Rattle.holdings.specs.Held.{areaAt, heldOf, mostOf};
 
-// How many bytes of each of the four areas, words of the table and of the log, and bytes of the groups and of the status are held.
+// How many bytes of each of the four areas, words of the table and of the log, bytes of the groups and of the status, and words of the
+// tail table are held.
 pub const HELD_AREA: usize = 5000;
 
 pub const HELD_TABLE: usize = 2200;
@@ -12,6 +13,8 @@ pub const HELD_TABLE: usize = 2200;
 pub const HELD_LOG: usize = 5000;
 
 pub const HELD_MARKS: usize = 300;
+
+pub const HELD_TAILS: usize = 800;
 
 pub enum Area {
     Accepted,
@@ -22,10 +25,11 @@ pub enum Area {
     Log,
     Groups,
     Status,
+    Tails,
 }
 
 impl Area {
-    // The area whose letter stands at this place in `acrxtlgs`.
+    // The area whose letter stands at this place in `acrxtlgsf`.
     pub fn at(place: u64) -> Area
         ensures { λ a. ⌜ a ≡ areaAt place ⌝ }
     {
@@ -37,7 +41,8 @@ impl Area {
             4 => Area::Table,
             5 => Area::Log,
             6 => Area::Groups,
-            _ => Area::Status,
+            7 => Area::Status,
+            _ => Area::Tails,
         }
     }
 
@@ -54,6 +59,7 @@ impl Area {
             Area::Log => HELD_LOG,
             Area::Groups => HELD_MARKS,
             Area::Status => HELD_MARKS,
+            Area::Tails => HELD_TAILS,
         }
     }
 
@@ -70,6 +76,7 @@ impl Area {
             Area::Log => u64::MAX,
             Area::Groups => TOP8,
             Area::Status => TOP8,
+            Area::Tails => u64::MAX,
         }
     }
 }

@@ -33,9 +33,9 @@ mostAt mark =
     (pick (eqb mark (code "D")) top32
     18446744073709551615)))))))
 
--- the letters of the areas, "a, c, r, x, t, l, g or s"
+-- the letters of the areas, "a, c, r, x, t, l, g or s", and f
 abbrev pub letters : List ℕ
-letters = code "a" ∷ code "c" ∷ code "r" ∷ code "x" ∷ code "t" ∷ code "l" ∷ code "g" ∷ code "s" ∷ []
+letters = code "a" ∷ code "c" ∷ code "r" ∷ code "x" ∷ code "t" ∷ code "l" ∷ code "g" ∷ code "s" ∷ code "f" ∷ []
 
 -- the place of a byte in a list; past its end where it is not in it
 unfoldable pub placeIn : List ℕ → ℕ → ℕ

@@ -27,7 +27,7 @@ const OUTCOME: u64 = 2;
 const KIND: u64 = Live::ROLLBACK as u64;
 
 // How many areas there are.
-const AREAS: u64 = 8;
+const AREAS: u64 = 9;
 
 // Whether a line fits a template, and the numbers that were read of it, with zeros after them.
 pub struct Fitted {
@@ -81,6 +81,7 @@ fn place(byte: u8) -> u64
         b'l' => 5,
         b'g' => 6,
         b's' => 7,
+        b'f' => 8,
         _ => AREAS,
     }
 }

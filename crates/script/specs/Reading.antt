@@ -30,6 +30,7 @@ templates =
     "pput B N N" ∷
     "ffill L:S" ∷
     "=record N N N N N F U U U D D D F K N" ∷
+    "ttails N" ∷
     "oopen N N L:S" ∷
     "bbegin L:S L:S C:S" ∷
     "Bbegin-structural L:S L:S C:S" ∷
@@ -48,7 +49,13 @@ templates =
     "?check N N N" ∷
     "Llink N F" ∷
     "Iinitialize N" ∷
-    "Ccancel N" ∷ [])
+    "Ccancel N" ∷
+    "+add-tail N N N" ∷
+    "-remove-tail N N" ∷
+    "Ffind-tail N N N N N N" ∷
+    "Mmove-tail N N N N N N" ∷
+    "Gfind-struct N N N N N N" ∷
+    "Nmove-struct N N N N N N" ∷ [])
 
 -- "a line of no bytes is empty, and a line whose first byte is `#` is a comment whatever follows"; one of "more than 1,000 bytes" is no
 -- command, nor one that fits no template. Of any other line nothing is said: `found` is the answer itself.

@@ -29,6 +29,7 @@ llend B N
 pput B N N
 ffill L:S
 =record N N N N N F U U U D D D F K N
+ttails N
 oopen N N L:S
 bbegin L:S L:S C:S
 Bbegin-structural L:S L:S C:S
@@ -48,6 +49,12 @@ sstamp N
 Llink N F
 Iinitialize N
 Ccancel N
++add-tail N N N
+-remove-tail N N
+Ffind-tail N N N N N N
+Mmove-tail N N N N N N
+Gfind-struct N N N N N N
+Nmove-struct N N N N N N
 ",
     );
     if !found.found {

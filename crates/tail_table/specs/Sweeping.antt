@@ -1,9 +1,9 @@
 -- How the calls of the tail table look at its used records, each once, and what they find: for both forms of the table. Assumes nothing.
 use Prim.Native.Nat.{ℕ, zero, suc, _/_}
-use mathlib.Core.Bool.{Bool, true, not}
+use mathlib.Core.Bool.{Bool, true, false, not}
 use mathlib.Core.List.{List, [], _∷_}
 use lib.Dec.{eqb, leb, ltb}
-use lib.ListN.{getD, set}
+use lib.ListN.{length, getD, set}
 use Rattle.choice.specs.Pick.{pick, _and_, _or_}
 use Rattle.wholeness.specs.Whole.{whole}
 use Rattle.step_stamps.specs.Stamping.{passes}
@@ -32,15 +32,12 @@ roomFor n = record { sized = leb n mostRecords; records = n }
 abbrev pub reachOf : Room → ℕ → ℕ
 reachOf room used = pick (room .sized and leb used (room .records)) used 0
 
--- whether all of some records stand before a pair, how many at their front do, and the last one's pair
-abbrev pub ahead : List Tail → File → Bool
-ahead [] f = true
-ahead (t ∷ ts) f = before (fileOf t) f and ahead ts f
+-- at which place a pair stands first among records, if it does
+abbrev pub spotOf : List Tail → File → ℕ
+spotOf [] f = 0
+spotOf (t ∷ ts) f = pick (same (fileOf t) f) 0 (pick (stands ts f) (suc (spotOf ts f)) 0)
 
-abbrev pub placeOf : List Tail → File → ℕ
-placeOf [] f = 0
-placeOf (t ∷ ts) f = pick (before (fileOf t) f) (suc (placeOf ts f)) 0
-
+-- the last one's pair
 abbrev pub nobody : File
 nobody = record { device = 0; inode = 0 }
 
@@ -48,29 +45,35 @@ abbrev pub lastOf : File → List Tail → File
 lastOf f [] = f
 lastOf f (t ∷ ts) = lastOf (fileOf t) ts
 
--- what is known after some records
-abbrev pub swept : List Tail → File → Sweep
-swept ts f = record {
+-- what is known after records that are in order
+abbrev pub known : List Tail → File → Sweep
+known ts f = record {
   file = f;
+  count = length ts;
   last = lastOf nobody ts;
   ordered = ascending ts;
-  ahead = ahead ts f;
   met = stands ts f;
-  place = placeOf ts f;
+  place = spotOf ts f;
   offset = savedOf ts f;
 }
 
--- and after one more, which is the number-th
+-- and after one more, which is the number-th: once they are out of order nothing more is looked for
+abbrev pub going : Sweep → Tail → ℕ → Bool → Bool → ℕ → ℕ → Sweep
+going s t number ordered met place offset =
+    record { file = s .file; count = number; last = fileOf t; ordered = ordered; met = met; place = place; offset = offset }
+
 abbrev pub stepped : Sweep → Tail → ℕ → Sweep
-stepped s t number = record {
-  file = s .file;
-  last = fileOf t;
-  ordered = s .ordered and (eqb number 1 or before (s .last) (fileOf t));
-  ahead = s .ahead and before (fileOf t) (s .file);
-  met = s .met or same (fileOf t) (s .file);
-  place = pick (s .ahead and before (fileOf t) (s .file)) number (s .place);
-  offset = pick (same (fileOf t) (s .file) and not (s .met)) (t .offset) (s .offset);
-}
+stepped s t number =
+    pick (not (eqb (s .count) 0 or before (s .last) (fileOf t))) (going s t number false (s .met) (s .place) (s .offset))
+    (pick (same (fileOf t) (s .file) and not (s .met)) (going s t number (s .ordered) true (s .count) (t .offset))
+    (going s t number (s .ordered) (s .met) (s .place) (s .offset)))
+
+abbrev pub sweptOn : Sweep → ℕ → List Tail → Sweep
+sweptOn s n [] = s
+sweptOn s n (t ∷ ts) = sweptOn (stepped s t (suc n)) (suc n) ts
+
+abbrev pub swept : List Tail → File → Sweep
+swept ts f = sweptOn (known [] f) 0 ts
 
 -- the refusals of the table and of the stamp, by a sweep
 abbrev pub unsoundBy : Room → ℕ → Sweep → Bool
@@ -87,10 +90,11 @@ byStamp room used s c own =
     ∷ own
 
 -- what the calls answer, by a sweep
+abbrev pub lookedBy : Sweep → ℕ → Finding
+lookedBy s size = pick (not (s .met)) F.Unknown (pick (ltb size (s .offset)) F.Shrunk (F.Same (s .offset)))
+
 abbrev pub findBy : Room → ℕ → Sweep → ℕ → Claim → Finding
-findBy room used s size c =
-    found (verdict (byStamp room used s c []))
-    (pick (not (s .met)) F.Unknown (pick (ltb size (s .offset)) F.Shrunk (F.Same (s .offset))))
+findBy room used s size c = found (verdict (byStamp room used s c [])) (lookedBy s size)
 
 abbrev pub addBy : Room → ℕ → Sweep → Verdict
 addBy room used s = verdict (byTable room used s (Present whenever s .met ∷ Full whenever leb (room .records) used ∷ []))
@@ -111,3 +115,12 @@ abbrev pub cut : ℕ → List Tail → List Tail
 cut i [] = []
 cut zero (t ∷ ts) = ts
 cut (suc i) (t ∷ ts) = t ∷ cut i ts
+
+-- whether all of some records stand before a pair, and how many at their front do: where it is put in
+abbrev pub ahead : List Tail → File → Bool
+ahead [] f = true
+ahead (t ∷ ts) f = before (fileOf t) f and ahead ts f
+
+abbrev pub placeOf : List Tail → File → ℕ
+placeOf [] f = 0
+placeOf (t ∷ ts) f = pick (before (fileOf t) f) (suc (placeOf ts f)) 0

@@ -57,28 +57,32 @@ abbrev pub findOf : List ℕ → ℕ → File → ℕ → Claim → Finding
 findOf words used f size c = found (verdict (onStamp words used c [])) (lookedUp (usedOf words used) f size)
 
 -- "Adding a pair twice is 32, then a full table 31"
-abbrev pub addOf : List ℕ → ℕ → Tail → TableLeft
-addOf words used t =
-    settled (verdict (onTable words used
+abbrev pub addRow : List ℕ → ℕ → Tail → List TailBar
+addRow words used t =
+    onTable words used
     (Present whenever stands (usedOf words used) (fileOf t)
     ∷ Full whenever leb (length (tailsOf words)) used
-    ∷ [])))
-    used words
-    (used + 1) (overFirst (entered t (usedOf words used)) words)
+    ∷ [])
+
+abbrev pub addOf : List ℕ → ℕ → Tail → TableLeft
+addOf words used t = settled (verdict (addRow words used t)) used words (used + 1) (overFirst (entered t (usedOf words used)) words)
 
 -- "removing .. an absent pair 34", and "Removing zeroes the freed last record."
+abbrev pub removeRow : List ℕ → ℕ → File → List TailBar
+removeRow words used f = onTable words used (Absent whenever not (stands (usedOf words used) f) ∷ [])
+
 abbrev pub removeOf : List ℕ → ℕ → File → TableLeft
 removeOf words used f =
-    settled (verdict (onTable words used (Absent whenever not (stands (usedOf words used) f) ∷ [])))
-    used words
-    (used - 1) (overFirst (without f (usedOf words used) ++ zeroes ∷ []) words)
+    settled (verdict (removeRow words used f)) used words (used - 1) (overFirst (without f (usedOf words used) ++ zeroes ∷ []) words)
 
 -- "moving an absent pair 34, then an offset that goes back 33"
-abbrev pub moveOf : List ℕ → ℕ → Tail → Claim → TableLeft
-moveOf words used t c =
-    settled (verdict (onStamp words used c
+abbrev pub moveRow : List ℕ → ℕ → Tail → Claim → List TailBar
+moveRow words used t c =
+    onStamp words used c
     (Absent whenever not (stands (usedOf words used) (fileOf t))
     ∷ Backward whenever ltb (t .offset) (savedOf (usedOf words used) (fileOf t))
-    ∷ [])))
-    used words
-    used (overFirst (movedTo (t .offset) (fileOf t) (usedOf words used)) words)
+    ∷ [])
+
+abbrev pub moveOf : List ℕ → ℕ → Tail → Claim → TableLeft
+moveOf words used t c =
+    settled (verdict (moveRow words used t c)) used words used (overFirst (movedTo (t .offset) (fileOf t) (usedOf words used)) words)

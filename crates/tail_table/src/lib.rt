@@ -8,10 +8,9 @@ use tail_answers::TailRefusal;
 use tail_answers::Verdict;
 ghost use mathlib.Core.Path.{_≡_};
 ghost use mathlib.Core.List.{[]};
-ghost use Rattle.choice.specs.Pick.{pick};
 ghost use Rattle.tail_answers.specs.TailAnswers.{verdict};
 ghost use Rattle.tail_table.specs.Table.{fileOf, same, before};
-ghost use Rattle.tail_table.specs.Sweeping.{roomOf, roomFor, reachOf, nobody, swept, stepped, byTable, byStamp, findBy, addBy, removeBy, moveBy};
+ghost use Rattle.tail_table.specs.Sweeping.{roomOf, roomFor, reachOf, swept, stepped, byTable, byStamp, findBy, addBy, removeBy, moveBy};
 
 // The words of a record, and the most records of a table.
 pub const WIDTH: usize = 3;
@@ -47,14 +46,13 @@ pub struct Room {
 // What the records so far have shown of the file that is looked for.
 pub struct Sweep {
     pub file: File,
-    // the last record's file
+    // how many there were, and the last one's file
+    pub count: usize,
     pub last: File,
     pub ordered: bool,
-    // whether all of them stand before the file, and how many at their front do
-    pub ahead: bool,
-    pub place: usize,
-    // whether the file stands among them, and its saved offset
+    // whether the file stands among them, at which place first, and its saved offset there
     pub met: bool,
+    pub place: usize,
     pub offset: u64,
 }
 
@@ -80,7 +78,11 @@ impl File {
     pub fn before(self, other: File) -> bool
         ensures { λ b. ⌜ b ≡ before self other ⌝ }
     {
-        (self.device < other.device) | ((self.device == other.device) & (self.inode < other.inode))
+        if self.device == other.device {
+            self.inode < other.inode
+        } else {
+            self.device < other.device
+        }
     }
 }
 
@@ -115,18 +117,6 @@ impl Room {
     }
 }
 
-fn choose(b: bool, x: u64, y: u64) -> u64
-    ensures { λ r. ⌜ r ≡ pick b x y ⌝ }
-{
-    if b { x } else { y }
-}
-
-fn choose_place(b: bool, x: usize, y: usize) -> usize
-    ensures { λ r. ⌜ r ≡ pick b x y ⌝ }
-{
-    if b { x } else { y }
-}
-
 impl Sweep {
     // Before the first record.
     pub fn start(file: File) -> Sweep
@@ -134,35 +124,55 @@ impl Sweep {
     {
         Sweep {
             file: file,
+            count: 0,
             last: File {
                 device: 0,
                 inode: 0,
             },
             ordered: true,
-            ahead: true,
-            place: 0,
             met: false,
+            place: 0,
             offset: 0,
         }
     }
 
-    // One record more, the number-th.
+    // One record more, the number-th: it comes after `count` others. Once they are out of order nothing more is looked for.
     pub fn step(self, t: Tail, number: usize) -> Sweep
         ensures { λ s. ⌜ s ≡ stepped self t number ⌝ }
     {
         let file = self.file;
         let last = self.last;
         let this = t.file();
-        let hit = this.is(file);
-        let ahead = self.ahead & this.before(file);
+        if !((self.count == 0) | last.before(this)) {
+            return Sweep {
+                file: file,
+                count: number,
+                last: this,
+                ordered: false,
+                met: self.met,
+                place: self.place,
+                offset: self.offset,
+            };
+        }
+        if this.is(file) & !self.met {
+            return Sweep {
+                file: file,
+                count: number,
+                last: this,
+                ordered: self.ordered,
+                met: true,
+                place: self.count,
+                offset: t.offset,
+            };
+        }
         Sweep {
             file: file,
+            count: number,
             last: this,
-            ordered: self.ordered & ((number == 1) | last.before(this)),
-            ahead: ahead,
-            place: choose_place(ahead, number, self.place),
-            met: self.met | hit,
-            offset: choose(hit & !self.met, t.offset, self.offset),
+            ordered: self.ordered,
+            met: self.met,
+            place: self.place,
+            offset: self.offset,
         }
     }
 }

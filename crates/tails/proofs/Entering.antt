@@ -1,6 +1,6 @@
 -- A record that is put in: what the loop has done that carries each record to the next place. Assumes nothing.
 use Prim.Native.Nat.{ℕ, suc, _+_, _%_, _<_, _≤_}
-use mathlib.Core.Path.{_≡_, refl, sym, _∙_, ap, subst}
+use mathlib.Core.Path.{_≡_, sym, _∙_, ap, subst}
 use mathlib.Core.List.{List}
 use native.Mathlib.Numerals.{add-one}
 use native.Mathlib.Nat.{le-of-lt}
@@ -10,7 +10,7 @@ use lib.Seq.{length-take-le, getD-take, take-take}
 use Rattle.tail_table.specs.Table.{tailsOf, wordsOf, fileOf, usedOf, entered, overFirst, zeroes}
 use Rattle.tail_table.specs.Sweeping.{placeOf}
 use Rattle.tail_table.specs.declared.Tail.{Tail}
-use Rattle.tail_table.proofs.Placing.{place-within, entered-long, entered-front, entered-there, entered-behind}
+use Rattle.tail_sweeps.proofs.Placing.{place-within, entered-long, entered-front, entered-there, entered-behind}
 use Rattle.tails.proofs.Shifting.{Shifting, shift-from, still-there, shift-more, shift-all}
 
 -- after the records below i, with the one that comes next in hand

@@ -1,6 +1,6 @@
 -- A record that is taken out: what the loop has done that moves each record behind it down by one. Assumes nothing.
 use Prim.Native.Nat.{ℕ, suc, _+_, _%_, _<_, _≤_}
-use mathlib.Core.Path.{_≡_, refl, sym, _∙_, ap, subst}
+use mathlib.Core.Path.{_≡_, sym, _∙_, ap}
 use mathlib.Core.List.{List, [], _∷_, _++_}
 use native.Mathlib.Numerals.{add-one}
 use native.Mathlib.Nat.{le-of-lt}
@@ -10,7 +10,7 @@ use lib.Seq.{length-take-le, getD-take, take-take, take-append-le, getD-at}
 use Rattle.tail_table.specs.Table.{tailsOf, wordsOf, usedOf, overFirst, zeroes}
 use Rattle.tail_table.specs.Sweeping.{cut}
 use Rattle.tail_table.specs.declared.Tail.{Tail}
-use Rattle.tail_table.proofs.Placing.{cut-long, cut-front, cut-behind}
+use Rattle.tail_sweeps.proofs.Placing.{cut-long, cut-front, cut-behind}
 use Rattle.tails.proofs.Shifting.{Shifting, shift-from, still-there, shift-more, shift-all}
 
 -- what the first records are to be

@@ -1,4 +1,5 @@
 pub mod Shifting
+pub mod Places
 pub mod Entering
 pub mod Leaving
 pub mod Settling

@@ -1,13 +1,13 @@
 -- What a loop that moves records by one has done: the table's first i records are those that it is to have. Assumes nothing.
-use Prim.Native.Nat.{ℕ, suc, _+_, _*_, _%_, _<_, _≤_}
+use Prim.Native.Nat.{ℕ, _+_, _*_, _%_, _<_, _≤_}
 use mathlib.Core.Path.{_≡_, refl, sym, _∙_, ap, subst}
-use mathlib.Core.List.{List, [], _∷_, _++_}
+use mathlib.Core.List.{List, _++_}
 use native.Mathlib.Omega.{arith}
 use lib.ListN.{length, getD, set, take, drop, length-set, take-append-drop}
-use Rattle.areas.proofs.Over.{over, Copying, copy-on, copy-all, over-rest}
+use Rattle.areas.proofs.Over.{Copying, copy-on, copy-all, over-rest}
 use Rattle.tail_table.specs.Table.{tailsOf, wordsOf, overFirst, zeroes}
 use Rattle.tail_table.specs.declared.Tail.{Tail}
-use Rattle.tail_table.proofs.Words.{tails-back, words-long, words-back, records}
+use Rattle.tail_sweeps.proofs.Words.{tails-back, words-long, words-back, records}
 
 -- the loop's words w, of w₀, after the first i of the records s; all of s have room
 pub record Shifting (w₀ : List ℕ) (s : List Tail) (w : List ℕ) (i : ℕ) : Type 0 where

@@ -70,13 +70,29 @@ fn sweep(words: &[u64], used: usize, file: File) -> Sweep
     s
 }
 
+// How many of the used records stand before a file, at their front: where it is put in.
+fn place_of(words: &[u64], used: usize, file: File) -> usize
+    requires { ⌜ used ≤ length (tailsOf (now words)) ⌝ }
+    ensures { λ n. ⌜ n ≡ placeOf (usedOf (now (words .entry)) used) file ⌝ }
+{
+    let mut i = 0;
+    while i < used {
+        let this = tail_at(words, i).file();
+        if !this.before(file) {
+            return i;
+        }
+        i += 1;
+    }
+    used
+}
+
 // A record put in at its place: those from there on move up by one, over the first that is not in use.
-fn put_in(words: &mut [u64], place: usize, used: usize, t: Tail)
-    requires { ⌜ (length (now words) % 3 ≡ 0) × ((used < length (tailsOf (now words))) × (place ≡ placeOf (usedOf (now words) used) (fileOf t))) ⌝ }
+fn put_in(words: &mut [u64], used: usize, t: Tail)
+    requires { ⌜ (length (now words) % 3 ≡ 0) × (used < length (tailsOf (now words))) ⌝ }
     ensures { λ _. ⌜ now (words .exit) ≡ overFirst (entered t (usedOf (now (words .entry)) used)) (now (words .entry)) ⌝ }
 {
     let mut carried = t;
-    let mut i = place;
+    let mut i = place_of(words, used, t.file());
     while i < used {
         let next = tail_at(words, i);
         put_tail(words, i, carried);
@@ -126,7 +142,7 @@ pub fn add(words: &mut [u64], used: usize, tail: Tail) -> Counted
             used: used,
         };
     }
-    put_in(words, s.place, used, tail);
+    put_in(words, used, tail);
     Counted {
         answer: Verdict::Done,
         used: used + 1,

@@ -38,7 +38,8 @@ pub(super) fn lines(out: Out) -> io::Result<()> {
 
 /// The last elements held and the first that are not, and values likewise.
 fn elements(out: Out) -> io::Result<()> {
-    let places = [Place::Accepted, Place::Table, Place::Log, Place::Groups, Place::Status];
+    use Place::{Accepted, Groups, Log, Status, Table, Tails};
+    let places = [Accepted, Table, Log, Groups, Status, Tails];
     for place in places {
         let held = place.held();
         writeln!(out, "{}", line::put(place, held - 1, BYTE_MOST))?;
@@ -63,6 +64,7 @@ fn odd() -> Vec<String> {
         "link 1 2".to_string(),
     ];
     lines.extend(line::bad_rows());
+    lines.extend(line::bad_tails());
     lines.push(line::row_with(row::TICKET, 1));
     lines.push(line::row(&Record::default().row()[1..]));
     lines.extend(["", " ", " show", "show ", "show\r"].map(String::from));

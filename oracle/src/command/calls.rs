@@ -1,10 +1,12 @@
 //! Reading the words of a call.
 //!
-//! Written from the page on the driver's script alone (and document 01 for
-//! what the calls take).
+//! Written from the page on the driver's script alone (and documents 01 and 02
+//! for what the calls take).
 
 use super::words::{flag, number, numbers, pairs, payload, Words};
-use crate::model::{Call, Mark, Name, Opening, Outcome, Payloads, Stamp, Work, CALLS};
+use crate::model::{
+    Call, Claim, File, Mark, Name, Opening, Outcome, Payloads, Stamp, Tail, Task, Work, CALLS,
+};
 
 /// The call of a word and of the words after it, if they are one.
 pub(super) fn call(word: &[u8], words: Words) -> Option<Call> {
@@ -13,8 +15,10 @@ pub(super) fn call(word: &[u8], words: Words) -> Option<Call> {
         Name::Open => open(words),
         Name::Begin | Name::BeginStructural => begin(name, words),
         Name::ReportStructure | Name::ReportUpdate | Name::ReportRollback => report(name, words),
-        Name::Check => check(words),
+        Name::Check => claim(words).map(Call::Check),
         Name::Link | Name::Initialize | Name::Cancel => status(name, words),
+        Name::AddTail | Name::RemoveTail => tail(name, words),
+        Name::FindTail | Name::FindStruct | Name::MoveTail | Name::MoveStruct => tail(name, words),
         _ => simple(name, words),
     }
 }
@@ -74,9 +78,9 @@ fn report(name: Name, words: Words) -> Option<Call> {
     })
 }
 
-fn check(words: Words) -> Option<Call> {
+fn claim(words: Words) -> Option<Claim> {
     let (domain, stamp) = words.split_first()?;
-    Some(Call::Check { domain: number(domain)?, stamp: Stamp::of_words(numbers(stamp)?) })
+    Some(Claim { domain: number(domain)?, stamp: Stamp::of_words(numbers(stamp)?) })
 }
 
 fn status(name: Name, words: Words) -> Option<Call> {
@@ -87,4 +91,24 @@ fn status(name: Name, words: Words) -> Option<Call> {
         _ => return None,
     };
     Some(Call::Status { id: number(id)?, mark })
+}
+
+fn tail(name: Name, words: Words) -> Option<Call> {
+    if words.len() < File::WORDS {
+        return None;
+    }
+    let (file, rest) = words.split_at(File::WORDS);
+    let structs = matches!(name, Name::FindStruct | Name::MoveStruct);
+    let task = match (name, rest) {
+        (Name::AddTail, [offset]) => Task::Add { offset: number(offset)? },
+        (Name::RemoveTail, []) => Task::Remove,
+        (Name::FindTail | Name::FindStruct, [size, rest @ ..]) => {
+            Task::Find { structs, size: number(size)?, claim: claim(rest)? }
+        }
+        (Name::MoveTail | Name::MoveStruct, [offset, rest @ ..]) => {
+            Task::Move { structs, offset: number(offset)?, claim: claim(rest)? }
+        }
+        _ => return None,
+    };
+    Some(Call::Tail(Tail { file: File::of_words(numbers(file)?), task }))
 }

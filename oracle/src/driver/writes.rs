@@ -1,6 +1,6 @@
 //! Changing what the driver holds: by hand, and as a step says.
 //!
-//! Written from document 01 and the page on the driver's script alone.
+//! Written from documents 01 and 02 and the page on the driver's script alone.
 
 use super::Driver;
 use crate::model::Write;
@@ -14,6 +14,7 @@ impl Driver {
             Place::Log => self.log[index] = value,
             Place::Groups => self.groups[index] = value as u8,
             Place::Status => self.status[index] = value as u8,
+            Place::Tails => self.tails[index] = value,
             area => self.areas[area as usize][index] = value as u8,
         }
     }

@@ -64,7 +64,7 @@ fn odd_numbers() -> Vec<String> {
     ];
     let words = ["begin 1: 1:1 0:0", "begin :1 1:1 0:0", "begin 1:1:1 1:1 0:0"];
     lines.extend(words.iter().chain(&["begin  1:1 1:1 0:0", "edit 1 1", "lend q 1"]).map(owned));
-    for place in [Place::Accepted, Place::Table, Place::Log, Place::Groups] {
+    for place in [Place::Accepted, Place::Table, Place::Log, Place::Groups, Place::Tails] {
         lines.push(line::lend(place, place.held() + 1));
     }
     lines.extend([
@@ -74,6 +74,7 @@ fn odd_numbers() -> Vec<String> {
         line::put(Place::Table, HELD_TABLE, 1),
         line::put(Place::Status, 0, wide),
         line::put(Place::Log, HELD_LOG, 0),
+        line::put(Place::Tails, HELD_TAILS, 0),
         format!("fill {}:0", long),
         "link 1 2".to_string(),
         format!("report-structure 1 {} 0 1:1 1:1", Outcome::MOST + 1),
@@ -91,6 +92,7 @@ pub(super) fn all() -> Vec<String> {
     lines.extend(odd_numbers());
     lines.extend(ODD_ENDS.iter().map(owned));
     lines.extend(line::bad_rows());
+    lines.extend(line::bad_tails());
     lines.push("open 0 0".to_string());
     lines
 }

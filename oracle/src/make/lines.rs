@@ -1,10 +1,10 @@
 //! The next call of a made script: any, or one that a careful caller makes.
 //!
-//! Written from document 01 and the page on the driver's script alone.
+//! Written from documents 01 and 02 and the page on the driver's script alone.
 
 use super::Maker;
 use crate::line;
-use crate::model::{phase, Name, Outcome, Record, Stamp, Work, CALLS};
+use crate::model::{phase, Claim, Name, Outcome, Record, Stamp, Work, CALLS};
 
 impl Maker<'_> {
     pub(super) fn any_call(&mut self) -> String {
@@ -81,11 +81,14 @@ impl Maker<'_> {
             Name::Edit => format!("{} {} {}", word, self.dice.payload(), self.dice.payload()),
             Name::Recover | Name::Refresh => format!("{} {}", word, self.lent_length()),
             Name::Stamp => format!("{} {}", word, self.dice.any()),
-            Name::Check => self.check(),
+            Name::Check => line::check(self.claim()),
             Name::Link | Name::Initialize | Name::Cancel => {
                 let id = self.id();
                 self.status_call(id)
             }
+            Name::AddTail | Name::RemoveTail => self.tail_call(name),
+            Name::FindTail | Name::MoveTail => self.tail_call(name),
+            Name::FindStruct | Name::MoveStruct => self.tail_call(name),
             _ => word.to_string(),
         }
     }
@@ -98,7 +101,8 @@ impl Maker<'_> {
         }
     }
 
-    fn check(&mut self) -> String {
+    /// A stamp and its domain: more often one that passes.
+    pub(super) fn claim(&mut self) -> Claim {
         let revision = self.record().revision;
         let domain = self.dice.any();
         let given = if self.dice.chance(70) { domain } else { self.dice.beside(domain) };
@@ -107,7 +111,7 @@ impl Maker<'_> {
             1 | 2 => self.dice.beside(revision),
             _ => revision,
         };
-        line::check(domain, Stamp { domain: given, revision })
+        Claim { domain, stamp: Stamp { domain: given, revision } }
     }
 
     /// Ticket, outcome and code of a report: mostly the live ticket.

@@ -34,14 +34,15 @@ impl Maker<'_> {
 
     /// Any line, or one that prepares.
     fn any_line(&mut self) -> String {
-        match self.dice.below(8) {
+        match self.dice.below(9) {
             0 => self.filling(),
             1 => self.stirring(),
             2 => {
-                let place = self.dice.pick(&[Place::Accepted, Place::Table, Place::Groups]);
-                line::lend(place, self.dice.below(HELD_IDS + 1))
+                let places = [Place::Accepted, Place::Table, Place::Groups, Place::Tails];
+                line::lend(self.dice.pick(&places), self.dice.below(HELD_IDS + 1))
             }
             3 => self.opening(),
+            4 => line::tails(self.dice.any()),
             _ => self.any_call(),
         }
     }

@@ -6,7 +6,7 @@
 use crate::answer::{Answer, Refusal};
 use crate::place::Place;
 use Family::{Act, Ask, Report};
-use Place::{Accepted, Candidate, Exchange, Groups, Recovery, Status, Table};
+use Place::{Accepted, Candidate, Exchange, Groups, Recovery, Status, Table, Tails};
 use Refusal::*;
 
 /// The calls, in the order of the table.
@@ -31,6 +31,12 @@ pub enum Name {
     Link,
     Initialize,
     Cancel,
+    AddTail,
+    RemoveTail,
+    FindTail,
+    MoveTail,
+    FindStruct,
+    MoveStruct,
 }
 
 /// How a call answers where it is not refused.
@@ -57,8 +63,12 @@ pub struct About {
 }
 
 impl Name {
+    pub fn about(self) -> &'static About {
+        &CALLS[self as usize]
+    }
+
     pub fn word(self) -> &'static str {
-        CALLS[self as usize].word
+        self.about().word
     }
 }
 
@@ -106,9 +116,10 @@ const EDITING: &[Refusal] = &[Idle, LongCandidate, LongRecovery];
 const ENDED: &[Place] = &[Accepted, Exchange];
 const RETAINED: &[Place] = &[Accepted, Recovery, Exchange];
 const IDS: &[Place] = &[Groups, Status];
+const MOVING: &[Refusal] = &[NotPassed, Absent, GoesBack];
 
 /// The table of calls.
-pub static CALLS: [About; 19] = [
+pub static CALLS: [About; 25] = [
     row(Name::Open, "open", None, &[Accepted], &[LongSnapshot], Act),
     row(Name::Begin, "begin", Some(1), BEGIN, BEGINNING, Act),
     row(Name::BeginStructural, "begin-structural", Some(2), BEGIN, BEGINNING, Act),
@@ -128,4 +139,10 @@ pub static CALLS: [About; 19] = [
     row(Name::Link, "link", None, IDS, &[NoStatus], Act),
     row(Name::Initialize, "initialize", None, IDS, &[NoStatus], Act),
     row(Name::Cancel, "cancel", None, IDS, &[NoStatus], Act),
+    row(Name::AddTail, "add-tail", None, &[Tails], &[Twice, TableFull], Act),
+    row(Name::RemoveTail, "remove-tail", None, &[Tails], &[Absent], Act),
+    row(Name::FindTail, "find-tail", None, &[Tails], &[NotPassed], Act),
+    row(Name::MoveTail, "move-tail", None, &[Tails], MOVING, Act),
+    row(Name::FindStruct, "find-struct", None, &[Tails], &[NotPassed], Act),
+    row(Name::MoveStruct, "move-struct", None, &[Tails], MOVING, Act),
 ];

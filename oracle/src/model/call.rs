@@ -2,7 +2,7 @@
 //!
 //! Written from documents 01 and 02 alone.
 
-use super::{About, Name, Opening, Outcome, Record, Stamp, Ticket, Work, Write, CALLS};
+use super::{About, Claim, Name, Opening, Outcome, Record, Tail, Ticket, Work, Write};
 use crate::place::Place;
 use crate::sizes::ACTION;
 
@@ -35,8 +35,9 @@ pub enum Call {
     RecoverRetained,
     Refresh { length: u64 },
     Stamp { domain: u64 },
-    Check { domain: u64, stamp: Stamp },
+    Check(Claim),
     Status { id: u64, mark: Mark },
+    Tail(Tail),
 }
 
 impl Call {
@@ -57,15 +58,16 @@ impl Call {
             Call::RecoverRetained => Name::RecoverRetained,
             Call::Refresh { .. } => Name::Refresh,
             Call::Stamp { .. } => Name::Stamp,
-            Call::Check { .. } => Name::Check,
+            Call::Check(_) => Name::Check,
             Call::Status { mark: Mark::Link { .. }, .. } => Name::Link,
             Call::Status { mark: Mark::Initialize, .. } => Name::Initialize,
             Call::Status { mark: Mark::Cancel, .. } => Name::Cancel,
+            Call::Tail(tail) => tail.name(),
         }
     }
 
     pub fn about(&self) -> &'static About {
-        &CALLS[self.name() as usize]
+        self.name().about()
     }
 
     /// The candidate and the recovery payload that a call is given.

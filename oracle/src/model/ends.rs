@@ -2,7 +2,7 @@
 //!
 //! Written from document 01 alone.
 
-use super::{Record, Stamp, Step, Write};
+use super::{Claim, Record, Stamp, Step, Write};
 use crate::place::Place;
 
 fn exchanged() -> Vec<Write> {
@@ -51,7 +51,11 @@ pub(super) fn stamp(old: &Record, domain: u64) -> Step {
     Step::done(old.clone(), &stamp_of(old, domain).words(), vec![])
 }
 
-pub(super) fn check(old: &Record, domain: u64, stamp: Stamp) -> Step {
-    let passes = !old.staged && stamp == stamp_of(old, domain);
-    Step::done(old.clone(), &[u64::from(passes)], vec![])
+/// Whether a stamp passes, the record being whole.
+pub fn passes(record: &Record, claim: Claim) -> bool {
+    !record.staged && claim.stamp == stamp_of(record, claim.domain)
+}
+
+pub(super) fn check(old: &Record, claim: Claim) -> Step {
+    Step::done(old.clone(), &[u64::from(passes(old, claim))], vec![])
 }

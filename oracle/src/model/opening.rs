@@ -44,3 +44,10 @@ impl Stamp {
         Stamp { domain, revision }
     }
 }
+
+/// A stamp with the domain that it is checked against.
+#[derive(Clone, Copy, Debug, PartialEq, Eq)]
+pub struct Claim {
+    pub domain: u64,
+    pub stamp: Stamp,
+}

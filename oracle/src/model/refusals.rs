@@ -29,7 +29,14 @@ fn given(refusal: Refusal, record: &Record, call: &Call) -> bool {
         Refusal::LongRecovery => call.payloads().recovery.len() as u64 > AREA,
         Refusal::LongSnapshot => call.snapshot() > AREA,
         Refusal::BadArea | Refusal::Damaged | Refusal::LogFull | Refusal::NoStatus => {
-            unreachable!("no refusal of a call's own in the transaction")
+            unreachable!("no refusal of a call's own")
+        }
+        Refusal::TableFull
+        | Refusal::Twice
+        | Refusal::GoesBack
+        | Refusal::Absent
+        | Refusal::NotPassed => {
+            unreachable!("no refusal of the transaction")
         }
     }
 }

@@ -5,20 +5,21 @@
 
 use crate::answer::{Answer, Refusal};
 use crate::model::{phase, Record, Ticket, Work, CALLS};
-use crate::sizes::{AREA, IDS_MOST, LOG_LEAST, LOG_MOST, MAX_ACTIONS, TABLE};
+use crate::sizes::{AREA, IDS_MOST, LOG_LEAST, LOG_MOST, MAX_ACTIONS, TABLE, TAIL, TAILS_MOST};
 use std::collections::BTreeSet;
 
 #[test]
-fn the_sizes_of_document_01() {
+fn the_sizes_of_documents_01_and_02() {
     assert_eq!((AREA, MAX_ACTIONS, TABLE, IDS_MOST), (4096, 64, 128, 256));
     assert_eq!((LOG_LEAST, LOG_MOST), (8, 4100));
+    assert_eq!((TAIL, TAILS_MOST), (3, 768));
 }
 
 #[test]
 fn every_answer_has_a_number() {
     let numbers: BTreeSet<u64> =
         CALLS.iter().flat_map(|about| about.answers()).map(Answer::number).collect();
-    let wanted: Vec<u64> = (0..=7).chain(9..=16).chain(20..=24).collect();
+    let wanted: Vec<u64> = (0..=7).chain(9..=16).chain(20..=24).chain(31..=35).collect();
     assert_eq!(numbers.into_iter().collect::<Vec<u64>>(), wanted);
 }
 

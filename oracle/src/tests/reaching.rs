@@ -32,5 +32,5 @@ fn the_short_script_reaches_every_kind() {
 fn the_kinds_are_those_of_the_table() {
     let kinds = kinds();
     let logged = kinds.iter().filter(|kind| kind.2).count();
-    assert_eq!((logged, kinds.len() - logged), (92, 101));
+    assert_eq!((logged, kinds.len() - logged), (92, 134));
 }

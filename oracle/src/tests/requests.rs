@@ -1,4 +1,4 @@
-//! Document 02's requests, case by case.
+//! Document 02's requests, case by case; the tail table has a file of its own.
 //!
 //! Written from documents 01 and 02 and the page on the driver's script alone.
 

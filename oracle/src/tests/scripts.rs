@@ -53,7 +53,7 @@ fn the_example_of_the_page() {
     assert_eq!(said[..3], ["0", "0", "0 3 2 0"]);
     assert_eq!(said[3], "record 1 0 2 0 0 0 0 0 0 0 0 0 0 0 0");
     let starts: Vec<&str> = said[4..].iter().map(|s| s.split(' ').next().unwrap()).collect();
-    assert_eq!(starts, ["bytes", "table", "log", "status"]);
+    assert_eq!(starts, ["bytes", "table", "log", "status", "tails"]);
 }
 
 #[test]

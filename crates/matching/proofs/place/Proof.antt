@@ -5,7 +5,7 @@ use Rattle.matching.specs.Templates.{placeIn}
 use Rattle.matching.proofs.place.Statement.{statement}
 use Rattle.matching.proofs.place.Tie as tie
 
-elsewhere : tie.Need-returns-9
+elsewhere : tie.Need-returns-10
 unfolding placeIn pick
 elsewhere c =
     let r = c .match .rest in
@@ -18,6 +18,7 @@ elsewhere c =
       ne-eqb _ _ (r .0 .0 .0 .0 .0 .1),
       ne-eqb _ _ (r .0 .0 .0 .0 .0 .0 .1),
       ne-eqb _ _ (r .0 .0 .0 .0 .0 .0 .0 .1),
+      ne-eqb _ _ (r .0 .0 .0 .0 .0 .0 .0 .0 .1),
     )
 
 pub place-spec : {M : Type 1} → statement M
@@ -25,4 +26,5 @@ unfolding placeIn pick
 place-spec =
     tie.close
     (tie.spec (λ c. simp (c .match .keys1)) (λ c. simp (c .match .keys2)) (λ c. simp (c .match .keys3)) (λ c. simp (c .match .keys4))
-    (λ c. simp (c .match .keys5)) (λ c. simp (c .match .keys6)) (λ c. simp (c .match .keys7)) (λ c. simp (c .match .keys8)) elsewhere)
+    (λ c. simp (c .match .keys5)) (λ c. simp (c .match .keys6)) (λ c. simp (c .match .keys7)) (λ c. simp (c .match .keys8))
+    (λ c. simp (c .match .keys9)) elsewhere)

@@ -4,9 +4,10 @@ use native.Mathlib.Omega.{arith}
 use Prim.Native.Nat.{_+_}
 use Rattle.tail_answers.specs.TailAnswers.{verdict}
 use Rattle.tail_table.specs.Table.{usedOf, entered, overFirst}
-use Rattle.tail_table.proofs.Words.{records}
-use Rattle.tails.proofs.Settling.{refused-so, done-so, place-so}
-use Rattle.tails.proofs.Adding.{addRow, adding, addable}
+use Rattle.tail_table.specs.TailCalls.{addRow}
+use Rattle.tail_sweeps.proofs.Words.{records}
+use Rattle.tails.proofs.Settling.{refused-so, done-so}
+use Rattle.tails.proofs.Adding.{adding, addable}
 use borrow.Author.Needs.{needs}
 use Rattle.tails.proofs.add.Statement.{statement}
 use Rattle.tails.proofs.add.Tie as tie
@@ -26,7 +27,7 @@ put-in-requires c κs =
     let a = s .before .before .before .before .args in
     let e = adding (a .words .now) (a .used) (a .tail) (b .before .of-words .ensures) (s .before .file .ensures) (s .sweep .ensures) (b .add-by .ensures) in
     let m = addable (a .words .now) (a .used) (a .tail) (sym e ∙ c .before .enum-told .given .1) in
-    (m .table .threes, (m .spare, place-so (m .table) (s .before .file .ensures) (s .sweep .ensures)))
+    (m .table .threes, m .spare)
 
 add-t11 : tie.Need-add-t11
 add-t11 c =

@@ -4,7 +4,7 @@ use lib.ListN.{length}
 use Rattle.tail_table.specs.Sweeping.{findBy, roomOf}
 use Rattle.tail_table.specs.declared.Room.{Room}
 use Rattle.tail_table.specs.declared.Sweep.{Sweep}
-use Rattle.tail_table.proofs.Deciding.{find-so}
+use Rattle.tail_sweeps.proofs.Deciding.{find-so}
 use borrow.Author.Needs.{needs}
 use Rattle.tails.proofs.find.Statement.{statement}
 use Rattle.tails.proofs.find.Tie as tie

@@ -2,8 +2,10 @@
 use mathlib.Core.Path.{sym, _∙_}
 use Rattle.tail_answers.specs.TailAnswers.{verdict}
 use Rattle.tail_table.specs.Table.{fileOf, usedOf, movedTo, overFirst}
-use Rattle.tail_table.proofs.Moving.{row, movable}
-use Rattle.tails.proofs.Settling.{refused-so, done-so, place-so}
+use Rattle.tail_table.specs.TailCalls.{moveRow}
+use Rattle.tail_sweeps.proofs.Moving.{movable}
+use Rattle.tail_sweeps.proofs.Deciding.{place-so}
+use Rattle.tails.proofs.Settling.{refused-so, done-so}
 use Rattle.tails.proofs.Advancing.{moving-by, in-words, advanced}
 use borrow.Author.Needs.{needs}
 use Rattle.tails.proofs.move_offset.Statement.{statement}
@@ -15,7 +17,7 @@ returns c =
     let s = b .before .before in
     let a = s .before .before .before .before .args in
     let e = moving-by (a .words .now) (a .used) (a .tail) (a .claim) (b .before .of-words .ensures) (s .before .file .ensures) (s .sweep .ensures) (b .move-by .ensures) in
-    refused-so (verdict (row (a .words .now) (a .used) (a .tail) (a .claim))) _ (a .used) (a .words .now) (a .used) (overFirst (movedTo (a .tail .offset) (fileOf (a .tail)) (usedOf (a .words .now) (a .used))) (a .words .now)) e (c .before .answer .given .1)
+    refused-so (verdict (moveRow (a .words .now) (a .used) (a .tail) (a .claim))) _ (a .used) (a .words .now) (a .used) (overFirst (movedTo (a .tail .offset) (fileOf (a .tail)) (usedOf (a .words .now) (a .used))) (a .words .now)) e (c .before .answer .given .1)
 
 put-offset-requires : tie.Need-put-offset-requires
 put-offset-requires c κs =
@@ -24,7 +26,7 @@ put-offset-requires c κs =
     let a = s .before .before .before .before .args in
     let e = moving-by (a .words .now) (a .used) (a .tail) (a .claim) (b .before .of-words .ensures) (s .before .file .ensures) (s .sweep .ensures) (b .move-by .ensures) in
     let m = movable (a .words .now) (a .used) (a .tail) (a .claim) (sym e ∙ c .before .enum-told .given .1) in
-    in-words (a .words .now) (a .used) (a .tail) (a .claim) _ m (place-so (m .table) (s .before .file .ensures) (s .sweep .ensures))
+    in-words (a .words .now) (a .used) (a .tail) (a .claim) _ m (place-so (m .table) (s .before .file .ensures) (s .sweep .ensures) (m .there))
 
 returns-2 : tie.Need-returns-2
 returns-2 c =
@@ -34,8 +36,8 @@ returns-2 c =
     let e = moving-by (a .words .now) (a .used) (a .tail) (a .claim) (b .before .of-words .ensures) (s .before .file .ensures) (s .sweep .ensures) (b .move-by .ensures) in
     let d = c .before .before .before .before .enum-told .given .1 in
     let m = movable (a .words .now) (a .used) (a .tail) (a .claim) (sym e ∙ d) in
-    done-so (verdict (row (a .words .now) (a .used) (a .tail) (a .claim))) (a .used) (a .words .now) (a .used) (overFirst (movedTo (a .tail .offset) (fileOf (a .tail)) (usedOf (a .words .now) (a .used))) (a .words .now)) e d
-    (c .before .before .put-offset .ensures ∙ advanced (a .words .now) (a .used) (a .tail) (a .claim) _ m (place-so (m .table) (s .before .file .ensures) (s .sweep .ensures)))
+    done-so (verdict (moveRow (a .words .now) (a .used) (a .tail) (a .claim))) (a .used) (a .words .now) (a .used) (overFirst (movedTo (a .tail .offset) (fileOf (a .tail)) (usedOf (a .words .now) (a .used))) (a .words .now)) e d
+    (c .before .before .put-offset .ensures ∙ advanced (a .words .now) (a .used) (a .tail) (a .claim) _ m (place-so (m .table) (s .before .file .ensures) (s .sweep .ensures) (m .there)))
 
 pub move-offset-spec : {M : Type 1} → statement M
 move-offset-spec =

@@ -2,7 +2,7 @@
 use Prim.Native.Nat.{_*_}
 use native.Mathlib.Omega.{arith}
 use lib.ListN.{length-set}
-use Rattle.tail_table.proofs.Words.{put-there}
+use Rattle.tail_sweeps.proofs.Words.{put-there}
 use borrow.Author.Needs.{needs}
 use Rattle.tails.proofs.put_tail.Statement.{statement}
 use Rattle.tails.proofs.put_tail.Tie as tie

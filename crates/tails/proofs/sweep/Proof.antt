@@ -9,9 +9,9 @@ use Rattle.tail_table.specs.Sweeping.{reachOf, swept}
 use Rattle.tail_table.specs.declared.File.{File}
 use Rattle.tail_table.specs.declared.Room.{Room}
 use Rattle.tail_table.specs.declared.Sweep.{Sweep}
-use Rattle.tail_table.proofs.Words.{records}
-use Rattle.tail_table.proofs.Sweeps.{swept-on}
-use Rattle.tail_table.proofs.Deciding.{reach-within}
+use Rattle.tail_sweeps.proofs.Words.{records}
+use Rattle.tail_sweeps.proofs.Sweeps.{swept-on}
+use Rattle.tail_sweeps.proofs.Deciding.{reach-within}
 use borrow.Author.Needs.{needs}
 use Rattle.tails.proofs.sweep.Statement.{statement}
 use Rattle.tails.proofs.sweep.Tie as tie

@@ -1,6 +1,6 @@
 -- `tails::tail_at` meets its contract. Assumes nothing.
 use native.Mathlib.Omega.{arith}
-use Rattle.tail_table.proofs.Words.{tail-there}
+use Rattle.tail_sweeps.proofs.Words.{tail-there}
 use borrow.Author.Needs.{needs}
 use Rattle.tails.proofs.tail_at.Statement.{statement}
 use Rattle.tails.proofs.tail_at.Tie as tie

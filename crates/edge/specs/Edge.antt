@@ -1,0 +1,21 @@
+-- What callers in C or Rust give a tail call as numbers, and how they are told what is found. Assumes nothing.
+use Prim.Native.Nat.{ℕ}
+use Rattle.record.specs.Given.{at, opening}
+use Rattle.tail_answers.specs.declared.Finding.{Finding}
+use Rattle.tail_answers.specs.declared.Finding.the-variants as F
+use Rattle.tail_table.specs.declared.File.{File}
+use Rattle.tail_table.specs.declared.Claim.{Claim}
+
+abbrev pub fileAt : ℕ → ℕ → File
+fileAt device inode = record { device = device; inode = inode }
+
+-- the idle record of an opening at the accepted revision, and a stamp of the domain 0 at a revision
+abbrev pub claimAt : ℕ → ℕ → Claim
+claimAt accepted stamped = record { «record» = opening (at accepted 0) 0; domain = 0; stamp = record { domain = 0; revision = stamped } }
+
+-- the offset to read on from, or the largest u64 where there is none
+abbrev pub offsetOr : Finding → ℕ
+offsetOr (F.Same offset) = offset
+offsetOr F.Shrunk = 18446744073709551615
+offsetOr F.Unknown = 18446744073709551615
+offsetOr (F.Refused why) = 18446744073709551615

@@ -1,0 +1,5 @@
+mod Copying
+mod Front
+mod Fronts
+mod Moves
+mod Sizes

@@ -1,0 +1,7 @@
+mod Agree
+pub mod Calling
+mod Counting
+pub mod Data
+mod Decided
+mod Shared
+pub mod Walking
