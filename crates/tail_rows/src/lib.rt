@@ -9,38 +9,15 @@ use tail_table::Room;
 use tail_table::Tail;
 use tail_table::WIDTH;
 ghost use mathlib.Core.Path.{_≡_};
-ghost use Prim.Native.Nat.{_+_, _*_, _<_, _≤_, _/_, _%_};
-ghost use lib.ListN.{length, take, getD, set};
-ghost use Rattle.tail_table.specs.Table.{tailsOf, wordsOf, zeroes};
+ghost use Prim.Native.Nat.{_≤_, _/_, _%_};
+ghost use lib.ListN.{length, take};
+ghost use Rattle.tail_table.specs.Table.{tailsOf, wordsOf};
 ghost use Rattle.tail_table.specs.TailCalls.{findOf, moveOf, tableLeft};
 
 // What a move answers, and the row after it.
 struct Moved {
     answer: Verdict,
     row: [Tail; 256],
-}
-
-// A record of the words: read, and put there.
-fn tail_at(words: &[u64], i: usize) -> Tail
-    requires { ⌜ i * 3 + 2 < length (now words) ⌝ }
-    ensures { λ t. ⌜ t ≡ getD (tailsOf (now (words .entry))) i zeroes ⌝ }
-{
-    let at = i * WIDTH;
-    Tail {
-        device: words[at],
-        inode: words[at + 1],
-        offset: words[at + 2],
-    }
-}
-
-fn put_tail(words: &mut [u64], i: usize, t: Tail)
-    requires { ⌜ (length (now words) % 3 ≡ 0) × (i * 3 + 2 < length (now words)) ⌝ }
-    ensures { λ _. ⌜ now (words .exit) ≡ wordsOf (set (tailsOf (now (words .entry))) i t) ⌝ }
-{
-    let at = i * WIDTH;
-    words[at] = t.device;
-    words[at + 1] = t.inode;
-    words[at + 2] = t.offset;
 }
 
 // The words' records, at the front of a row.
@@ -57,7 +34,7 @@ fn row_of(words: &[u64]) -> [Tail; 256]
     let n = words.len() / WIDTH;
     let mut i: usize = 0;
     while i < n {
-        row[i] = tail_at(words, i);
+        row[i] = tails::tail_at(words, i);
         i += 1;
     }
     row
@@ -71,7 +48,7 @@ fn put_back(words: &mut [u64], row: [Tail; 256])
     let n = words.len() / WIDTH;
     let mut i: usize = 0;
     while i < n {
-        put_tail(words, i, row[i]);
+        tails::put_tail(words, i, row[i]);
         i += 1;
     }
 }

@@ -11,9 +11,10 @@ use Rattle.choice.specs.Pick.{pick, _and_, _or_}
 use Rattle.choice.proofs.Picks.{each, no}
 use Rattle.choice.proofs.Tests.{and-true, both}
 use Rattle.tail_table.specs.Table.{fileOf, same, before, ascending, stands, savedOf}
-use Rattle.tail_table.specs.Sweeping.{spotOf, nobody, lastOf, known, going, stepped}
+use Rattle.tail_table.specs.Sweeping.{spotOf, nobody, lastOf, known, stepped}
 use Rattle.tail_table.specs.declared.Tail.{Tail}
 use Rattle.tail_table.specs.declared.File.{File}
+use Rattle.tail_table.specs.declared.Sweep.{Sweep}
 
 -- laws of tests
 and-apart : (a b c : Bool) → a and (b and c) ≡ a and b and c
@@ -100,8 +101,11 @@ module _ (f : File) where
   in-order : (ts : List Tail) (t : Tail) → ascending (ts ++ (t ∷ [])) ≡ true → eqb (length ts) 0 or before (lastOf nobody ts) (fileOf t) ≡ true
   in-order ts t a = both (order-more ts t ∙ a) .1
 
-  pieces : (ts : List Tail) (t : Tail) (s m : Bool) → pick (s and not m) (going (known ts f) t (suc (length ts)) (ascending ts) true (length ts) (t .offset)) (going (known ts f) t (suc (length ts)) (ascending ts) m (spotOf ts f) (savedOf ts f))
-      ≡ going (known ts f) t (suc (length ts)) (ascending ts) (m or s) (pick (s and not m) (length ts) (spotOf ts f)) (pick (s and not m) (t .offset) (savedOf ts f))
+  abbrev pieced : List Tail → Tail → Bool → ℕ → ℕ → Sweep
+  pieced ts t met place offset = record { file = f; count = suc (length ts); last = fileOf t; ordered = ascending ts; met = met; place = place; offset = offset }
+
+  pieces : (ts : List Tail) (t : Tail) (s m : Bool) → pick (s and not m) (pieced ts t true (length ts) (t .offset)) (pieced ts t m (spotOf ts f) (savedOf ts f))
+      ≡ pieced ts t (m or s) (pick (s and not m) (length ts) (spotOf ts f)) (pick (s and not m) (t .offset) (savedOf ts f))
   unfolding pick _and_ _or_
   pieces ts t true true = refl
   pieces ts t true false = refl

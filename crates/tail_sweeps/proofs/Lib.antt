@@ -5,3 +5,7 @@ pub mod Knowing
 pub mod Sweeps
 pub mod Deciding
 pub mod Moving
+pub mod Shifting
+pub mod Places
+pub mod Entering
+pub mod Leaving

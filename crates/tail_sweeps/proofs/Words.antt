@@ -1,10 +1,14 @@
 -- Flat words and records: each is the other's, and how many there are. Assumes nothing.
-use Prim.Native.Nat.{ℕ, zero, suc, _+_, _*_, _/_, _%_, _<_}
+use Prim.Native.Nat.{ℕ, zero, suc, _+_, _*_, _/_, _%_, _<_, _≤_}
 use mathlib.Core.Path.{_≡_, refl, sym, _∙_, ap}
 use mathlib.Core.List.{List, [], _∷_}
 use native.Mathlib.Omega.{arith}
-use lib.ListN.{length, getD, set}
-use Rattle.tail_table.specs.Table.{tailOf, tailsOf, wordsOf, withOffset, zeroes}
+use mathlib.Core.Logic.{_≢_}
+use lib.ListN.{length, getD, set, List·getD-eq-default}
+use lib.Seq.{set-out}
+use borrow.Author.Tests.{eq-eqb, ne-eqb}
+use Rattle.choice.proofs.Picks.{yes, no}
+use Rattle.tail_table.specs.Table.{tailOf, tailsOf, wordsOf, withOffset, recordPut, zeroes}
 use Rattle.tail_table.specs.declared.Tail.{Tail}
 
 pub tails-back : (ts : List Tail) → tailsOf (wordsOf ts) ≡ ts
@@ -65,7 +69,7 @@ put-from (x ∷ y ∷ z ∷ l) (suc i) t e h =
     ∙ set-further x y z (set (set l (i * 3 + 0) (t .device)) (i * 3 + 1) (t .inode)) i 2 (t .offset)
     ∙ ap (λ (m : List ℕ). x ∷ y ∷ z ∷ m) (put-from l i t (omega (arith, e)) (omega (arith, h)))
 
-pub put-there : (l : List ℕ) (i : ℕ) (t : Tail) → length l % 3 ≡ 0 → i * 3 + 2 < length l → set (set (set l (i * 3) (t .device)) (i * 3 + 1) (t .inode)) (i * 3 + 2) (t .offset) ≡ wordsOf (set (tailsOf l) i t)
+put-there : (l : List ℕ) (i : ℕ) (t : Tail) → length l % 3 ≡ 0 → i * 3 + 2 < length l → set (set (set l (i * 3) (t .device)) (i * 3 + 1) (t .inode)) (i * 3 + 2) (t .offset) ≡ wordsOf (set (tailsOf l) i t)
 put-there l i t e h = ap (λ (k : ℕ). set (set (set l k (t .device)) (i * 3 + 1) (t .inode)) (i * 3 + 2) (t .offset)) (at-first i) ∙ put-from l i t e h
 
 -- and its offset alone
@@ -77,3 +81,27 @@ offset-there (x ∷ y ∷ z ∷ l) zero offset e h = ap (λ (m : List ℕ). x �
 offset-there (x ∷ y ∷ z ∷ l) (suc i) offset e h =
     set-further x y z l i 2 offset
     ∙ ap (λ (m : List ℕ). x ∷ y ∷ z ∷ m) (offset-there l i offset (omega (arith, e)) (omega (arith, h)))
+
+-- past the end
+pub none-there : (l : List ℕ) (i : ℕ) → length l / 3 ≤ i → zeroes ≡ getD (tailsOf l) i zeroes
+none-there l i h = let r = records l in sym (List·getD-eq-default (tailsOf l) zeroes (omega (arith, r, h)))
+
+-- so a record is put as the definition says, whatever the words and the place are
+pub put-no-records : (l : List ℕ) (i : ℕ) (t : Tail) → length l % 3 ≢ 0 → l ≡ recordPut i t l
+unfolding recordPut
+put-no-records l i t n = no _ (ne-eqb (length l % 3) 0 n) refl
+
+pub put-past : (l : List ℕ) (i : ℕ) (t : Tail) → length l % 3 ≡ 0 → length l / 3 ≤ i → l ≡ recordPut i t l
+unfolding recordPut
+put-past l i t e h =
+    let r = records l in
+    yes _ (eq-eqb (length l % 3) 0 e) (sym (ap wordsOf (set-out (tailsOf l) i t (omega (arith, r, h))) ∙ words-back l e))
+
+pub put-in-place : (l : List ℕ) (i : ℕ) (t : Tail) → length l % 3 ≡ 0 → i < length l / 3 → set (set (set l (i * 3) (t .device)) (i * 3 + 1) (t .inode)) (i * 3 + 2) (t .offset) ≡ recordPut i t l
+unfolding recordPut
+put-in-place l i t e h = yes _ (eq-eqb (length l % 3) 0 e) (put-there l i t e (omega (arith, e, h)))
+
+-- and read as records again
+pub put-so : {w′ : List ℕ} (w : List ℕ) (i : ℕ) (t : Tail) → length w % 3 ≡ 0 → w′ ≡ recordPut i t w → w′ ≡ wordsOf (set (tailsOf w) i t)
+unfolding recordPut
+put-so w i t e p = p ∙ sym (yes _ (eq-eqb (length w % 3) 0 e) refl)

@@ -58,15 +58,18 @@ known ts f = record {
 }
 
 -- and after one more, which is the number-th: once they are out of order nothing more is looked for
-abbrev pub going : Sweep → Tail → ℕ → Bool → Bool → ℕ → ℕ → Sweep
-going s t number ordered met place offset =
-    record { file = s .file; count = number; last = fileOf t; ordered = ordered; met = met; place = place; offset = offset }
+abbrev pub past : Sweep → File → ℕ → Bool → Sweep
+past s last number ordered =
+    record { file = s .file; count = number; last = last; ordered = ordered; met = s .met; place = s .place; offset = s .offset }
+
+abbrev pub meeting : Sweep → Tail → ℕ → Sweep
+meeting s t number =
+    record { file = s .file; count = number; last = fileOf t; ordered = s .ordered; met = true; place = s .count; offset = t .offset }
 
 abbrev pub stepped : Sweep → Tail → ℕ → Sweep
 stepped s t number =
-    pick (not (eqb (s .count) 0 or before (s .last) (fileOf t))) (going s t number false (s .met) (s .place) (s .offset))
-    (pick (same (fileOf t) (s .file) and not (s .met)) (going s t number (s .ordered) true (s .count) (t .offset))
-    (going s t number (s .ordered) (s .met) (s .place) (s .offset)))
+    pick (not (eqb (s .count) 0 or before (s .last) (fileOf t))) (past s (fileOf t) number false)
+    (pick (same (fileOf t) (s .file) and not (s .met)) (meeting s t number) (past s (fileOf t) number (s .ordered)))
 
 abbrev pub sweptOn : Sweep → ℕ → List Tail → Sweep
 sweptOn s n [] = s

@@ -4,7 +4,7 @@ use Prim.Native.Nat.{ℕ, _+_, _*_, _%_}
 use mathlib.Core.Bool.{Bool, true, false, not}
 use mathlib.Core.List.{List, [], _∷_, _++_}
 use lib.Dec.{eqb, ltb}
-use lib.ListN.{length, take, drop}
+use lib.ListN.{length, set, take, drop}
 use Rattle.choice.specs.Pick.{pick, _and_, _or_}
 use Rattle.tail_table.specs.declared.Tail.{Tail}
 use Rattle.tail_table.specs.declared.File.{File}
@@ -95,3 +95,7 @@ overFirst us words = wordsOf (us ++ drop (length us) (tailsOf words))
 -- "Removing zeroes the freed last record"
 abbrev pub zeroes : Tail
 zeroes = tailOf 0 0 0
+
+-- one record of words put in place of another; words that are no records, and a place past the end, stay
+unfoldable pub recordPut : ℕ → Tail → List ℕ → List ℕ
+recordPut i t words = pick (eqb (length words % width) 0) (wordsOf (set (tailsOf words) i t)) words

@@ -10,7 +10,7 @@ ghost use mathlib.Core.Path.{_≡_};
 ghost use mathlib.Core.List.{[]};
 ghost use Rattle.tail_answers.specs.TailAnswers.{verdict};
 ghost use Rattle.tail_table.specs.Table.{fileOf, same, before};
-ghost use Rattle.tail_table.specs.Sweeping.{roomOf, roomFor, reachOf, swept, stepped, byTable, byStamp, findBy, addBy, removeBy, moveBy};
+ghost use Rattle.tail_table.specs.Sweeping.{roomOf, roomFor, reachOf, swept, past, stepped, byTable, byStamp, findBy, addBy, removeBy, moveBy};
 
 // The words of a record, and the most records of a table.
 pub const WIDTH: usize = 3;
@@ -136,6 +136,22 @@ impl Sweep {
         }
     }
 
+    // One record on, with nothing more of the file.
+    fn past(self, last: File, number: usize, ordered: bool) -> Sweep
+        ensures { λ s. ⌜ s ≡ past self last number ordered ⌝ }
+    {
+        let file = self.file;
+        Sweep {
+            file: file,
+            count: number,
+            last: last,
+            ordered: ordered,
+            met: self.met,
+            place: self.place,
+            offset: self.offset,
+        }
+    }
+
     // One record more, the number-th: it comes after `count` others. Once they are out of order nothing more is looked for.
     pub fn step(self, t: Tail, number: usize) -> Sweep
         ensures { λ s. ⌜ s ≡ stepped self t number ⌝ }
@@ -144,15 +160,7 @@ impl Sweep {
         let last = self.last;
         let this = t.file();
         if !((self.count == 0) | last.before(this)) {
-            return Sweep {
-                file: file,
-                count: number,
-                last: this,
-                ordered: false,
-                met: self.met,
-                place: self.place,
-                offset: self.offset,
-            };
+            return self.past(this, number, false);
         }
         if this.is(file) & !self.met {
             return Sweep {
@@ -165,15 +173,7 @@ impl Sweep {
                 offset: t.offset,
             };
         }
-        Sweep {
-            file: file,
-            count: number,
-            last: this,
-            ordered: self.ordered,
-            met: self.met,
-            place: self.place,
-            offset: self.offset,
-        }
+        self.past(this, number, self.ordered)
     }
 }
 

@@ -16,7 +16,7 @@ ghost use mathlib.Core.Path.{_≡_};
 ghost use mathlib.Core.List.{_∷_, [], _++_};
 ghost use Prim.Native.Nat.{_+_, _*_, _%_, _<_, _≤_};
 ghost use lib.ListN.{length, take, getD, set};
-ghost use Rattle.tail_table.specs.Table.{tailsOf, wordsOf, fileOf, usedOf, entered, overFirst, zeroes};
+ghost use Rattle.tail_table.specs.Table.{tailsOf, wordsOf, fileOf, usedOf, entered, overFirst, recordPut, zeroes};
 ghost use Rattle.tail_table.specs.TailCalls.{tableLeft, findOf, addOf, removeOf, moveOf};
 ghost use Rattle.tail_table.specs.Sweeping.{roomOf, reachOf, placeOf, swept, cut};
 
@@ -26,10 +26,17 @@ pub struct Counted {
     pub used: usize,
 }
 
-fn tail_at(words: &[u64], i: usize) -> Tail
-    requires { ⌜ i * 3 + 2 < length (now words) ⌝ }
+// Record i of the words; past the end stand zeroes.
+pub fn tail_at(words: &[u64], i: usize) -> Tail
     ensures { λ t. ⌜ t ≡ getD (tailsOf (now (words .entry))) i zeroes ⌝ }
 {
+    if words.len() / WIDTH <= i {
+        return Tail {
+            device: 0,
+            inode: 0,
+            offset: 0,
+        };
+    }
     let at = i * WIDTH;
     Tail {
         device: words[at],
@@ -38,10 +45,16 @@ fn tail_at(words: &[u64], i: usize) -> Tail
     }
 }
 
-fn put_tail(words: &mut [u64], i: usize, t: Tail)
-    requires { ⌜ (length (now words) % 3 ≡ 0) × (i * 3 + 2 < length (now words)) ⌝ }
-    ensures { λ _. ⌜ now (words .exit) ≡ wordsOf (set (tailsOf (now (words .entry))) i t) ⌝ }
+// A record put in place of record i, where the words have one.
+pub fn put_tail(words: &mut [u64], i: usize, t: Tail)
+    ensures { λ _. ⌜ now (words .exit) ≡ recordPut i t (now (words .entry)) ⌝ }
 {
+    if words.len() % WIDTH != 0 {
+        return;
+    }
+    if words.len() / WIDTH <= i {
+        return;
+    }
     let at = i * WIDTH;
     words[at] = t.device;
     words[at + 1] = t.inode;

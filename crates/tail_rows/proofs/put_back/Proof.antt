@@ -4,7 +4,7 @@ use mathlib.Core.Path.{_≡_, refl, sym, _∙_, ap}
 use native.Mathlib.Omega.{arith}
 use lib.ListN.{length, take}
 use Rattle.tail_table.specs.Table.{tailsOf, wordsOf}
-use Rattle.tail_sweeps.proofs.Words.{records, words-back}
+use Rattle.tail_sweeps.proofs.Words.{records, words-back, put-so}
 use borrow.Author.Needs.{needs}
 use Rattle.tail_rows.proofs.Copying.{put-on, all-taken}
 use Rattle.tail_rows.proofs.put_back.Statement.{statement}
@@ -38,7 +38,7 @@ loop-again : tie.Need-loop-again Inv-loop μ-loop
 loop-again c =
     let l = c .before .before .before .before .before .before .loop in
     let a = c .before .before .before .before .before .before .before .before .args in
-    let p = put-on (l .words) (c .before .before .put-tail .last .0) (a .t2) (l .i) (c .before .before .put-tail .ensures) refl (omega arith) (omega (arith, l .inv)) (omega arith) (l .inv .1 .1) in
+    let p = put-on (l .words) (c .before .before .put-tail .last .0) (a .t2) (l .i) (put-so (l .words) (l .i) _ (omega (arith, l .inv)) (c .before .before .put-tail .ensures)) refl (omega arith) (omega (arith, l .inv)) (omega arith) (l .inv .1 .1) in
     (omega arith, (p .0 ∙ l .inv .1 .0, p .1))
 
 same-length : tie.Need-same-length Inv-loop μ-loop

@@ -11,7 +11,7 @@ use Rattle.tail_table.specs.Table.{tailsOf, usedOf}
 use Rattle.tail_table.specs.Sweeping.{ahead}
 use Rattle.tail_table.specs.declared.Tail.{Tail}
 use Rattle.tail_sweeps.proofs.Words.{records}
-use Rattle.tails.proofs.Places.{ahead-more, place-here, place-end, read-so}
+use Rattle.tail_sweeps.proofs.Places.{ahead-more, place-here, place-end, read-so}
 use borrow.Author.Needs.{needs}
 use Rattle.tails.proofs.place_of.Statement.{statement}
 use Rattle.tails.proofs.place_of.Tie as tie
@@ -24,12 +24,6 @@ abbrev μ-loop : tie.MeasureT-loop
 
 loop-holds : tie.Need-loop-holds Inv-loop μ-loop
 loop-holds c = (omega arith, refl)
-
-tail-at-requires : tie.Need-tail-at-requires Inv-loop μ-loop
-tail-at-requires c κs =
-    let l = c .before in
-    let r = records (l .before .before .args .words .now) in
-    omega (arith, l .before .before .pre, r)
 
 file-requires : tie.Need-file-requires Inv-loop μ-loop
 file-requires c κs = search needs
@@ -73,4 +67,4 @@ returns-2 c =
 pub place-of-spec : {M : Type 1} → statement M
 place-of-spec =
     tie.close
-    (tie.spec Inv-loop μ-loop loop-holds tail-at-requires file-requires before-requires returns add-i loop-less loop-again returns-2)
+    (tie.spec Inv-loop μ-loop loop-holds (λ c κs. search needs) file-requires before-requires returns add-i loop-less loop-again returns-2)

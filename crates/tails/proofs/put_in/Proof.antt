@@ -4,8 +4,8 @@ use mathlib.Core.Path.{_∙_, ap}
 use native.Mathlib.Omega.{arith}
 use Rattle.tail_table.specs.Table.{usedOf}
 use Rattle.tail_table.specs.Sweeping.{placeOf}
-use Rattle.tails.proofs.Shifting.{in-words}
-use Rattle.tails.proofs.Entering.{Entering, enter-from, enter-more, enter-all, enter-long}
+use Rattle.tail_sweeps.proofs.Words.{put-so}
+use Rattle.tail_sweeps.proofs.Entering.{Entering, enter-from, enter-more, enter-all, enter-long}
 use borrow.Author.Needs.{needs}
 use Rattle.tails.proofs.put_in.Statement.{statement}
 use Rattle.tails.proofs.put_in.Tie as tie
@@ -26,18 +26,6 @@ loop-holds c =
     let p = c .place-of .ensures ∙ ap (placeOf (usedOf (a .words .now) (a .used))) (c .before .file .ensures) in
     enter-from (a .words .now) (c .place-of .result) (a .used) (a .t) (s .pre .1) p (s .pre .0)
 
-tail-at-requires : tie.Need-tail-at-requires Inv-loop μ-loop
-tail-at-requires c κs =
-    let l = c .before .before in
-    let r = l .before .before .before .before .before .pre in
-    in-words (l .loop .inv .shifting) (l .loop .i) (omega (arith, r))
-
-put-tail-requires : tie.Need-put-tail-requires Inv-loop μ-loop
-put-tail-requires c κs =
-    let l = c .before .before .before .before in
-    let r = l .before .before .before .before .before .pre in
-    (l .loop .inv .shifting .threes, in-words (l .loop .inv .shifting) (l .loop .i) (omega (arith, r)))
-
 add-i : tie.Need-add-i Inv-loop μ-loop
 add-i c = search needs
 
@@ -52,13 +40,7 @@ loop-again c =
     let s = q .before .before .before .before in
     let a = s .args in
     let p = q .place-of .ensures ∙ ap (placeOf (usedOf (a .words .now) (a .used))) (q .before .file .ensures) in
-    enter-more (a .words .now) (q .place-of .result) (a .used) (a .t) (s .pre .1) p (l .loop .inv) (omega arith) (t .before .before .tail-at .ensures) (t .put-tail .ensures)
-
-put-tail-requires-2 : tie.Need-put-tail-requires-2 Inv-loop μ-loop
-put-tail-requires-2 c κs =
-    let l = c .before .before in
-    let s = l .before .before .before .before .before in
-    (l .loop .inv .shifting .threes, in-words (l .loop .inv .shifting) (s .args .used) (s .pre .1))
+    enter-more (a .words .now) (q .place-of .result) (a .used) (a .t) (s .pre .1) p (l .loop .inv) (omega arith) (t .before .before .tail-at .ensures) (put-so (l .loop .words) (l .loop .i) (l .loop .carried) (l .loop .inv .shifting .threes) (t .put-tail .ensures))
 
 same-length : tie.Need-same-length Inv-loop μ-loop
 same-length c =
@@ -68,7 +50,7 @@ same-length c =
     let s = q .before .before .before .before in
     let a = s .args in
     let p = q .place-of .ensures ∙ ap (placeOf (usedOf (a .words .now) (a .used))) (q .before .file .ensures) in
-    enter-long (a .words .now) (q .place-of .result) (a .used) (a .t) (s .pre .1) p (l .loop .inv) (omega (arith, l .loop .inv .upto)) (t .put-tail2 .ensures)
+    enter-long (a .words .now) (q .place-of .result) (a .used) (a .t) (s .pre .1) p (l .loop .inv) (omega (arith, l .loop .inv .upto)) (put-so (l .loop .words) (a .used) (l .loop .carried) (l .loop .inv .shifting .threes) (t .put-tail2 .ensures))
 
 returns : tie.Need-returns Inv-loop μ-loop
 returns c =
@@ -78,9 +60,9 @@ returns c =
     let s = q .before .before .before .before in
     let a = s .args in
     let p = q .place-of .ensures ∙ ap (placeOf (usedOf (a .words .now) (a .used))) (q .before .file .ensures) in
-    enter-all (a .words .now) (q .place-of .result) (a .used) (a .t) (s .pre .1) p (l .loop .inv) (omega (arith, l .loop .inv .upto)) (t .put-tail2 .ensures)
+    enter-all (a .words .now) (q .place-of .result) (a .used) (a .t) (s .pre .1) p (l .loop .inv) (omega (arith, l .loop .inv .upto)) (put-so (l .loop .words) (a .used) (l .loop .carried) (l .loop .inv .shifting .threes) (t .put-tail2 .ensures))
 
 pub put-in-spec : {M : Type 1} → statement M
 put-in-spec =
     tie.close
-    (tie.spec Inv-loop μ-loop (λ c κs. search needs) place-of-requires loop-holds tail-at-requires put-tail-requires add-i loop-less loop-again put-tail-requires-2 same-length returns)
+    (tie.spec Inv-loop μ-loop (λ c κs. search needs) place-of-requires loop-holds (λ c κs. search needs) (λ c κs. search needs) add-i loop-less loop-again (λ c κs. search needs) same-length returns)

@@ -39,11 +39,6 @@ loop-holds c =
     let w = reach-within (length (a .words .now)) (a .used) in
     (omega arith, (subst (λ (k : ℕ). k ≤ length (a .words .now) / 3) (sym e) w, c .start .ensures ∙ ap (swept []) (sym (ap (λ (s : Sweep). s .file) (c .start .ensures)))))
 
-tail-at-requires : tie.Need-tail-at-requires Inv-loop μ-loop
-tail-at-requires c κs =
-    let i = c .before .loop .inv in
-    omega (arith, i)
-
 add-i : tie.Need-add-i Inv-loop μ-loop
 add-i c = search needs
 
@@ -74,4 +69,4 @@ returns c =
 pub sweep-spec : {M : Type 1} → statement M
 sweep-spec =
     tie.close
-    (tie.spec Inv-loop μ-loop of-words-requires reach-requires start-requires loop-holds tail-at-requires add-i step-requires loop-less loop-again returns)
+    (tie.spec Inv-loop μ-loop of-words-requires reach-requires start-requires loop-holds (λ c κs. search needs) add-i step-requires loop-less loop-again returns)

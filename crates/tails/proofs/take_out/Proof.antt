@@ -1,11 +1,11 @@
 -- `tails::take_out` meets its contract: each turn moves the next record down by one. Assumes nothing.
-use Prim.Native.Nat.{ℕ, _+_, _-_}
+use Prim.Native.Nat.{ℕ, _-_}
 use mathlib.Core.Path.{_≡_, sym, _∙_, ap}
 use native.Mathlib.Omega.{arith}
 use lib.ListN.{set}
 use Rattle.tail_table.specs.Table.{tailsOf, wordsOf, zeroes}
-use Rattle.tails.proofs.Shifting.{in-words}
-use Rattle.tails.proofs.Leaving.{Leaving, leave-from, leave-more, leave-all, leave-long}
+use Rattle.tail_sweeps.proofs.Words.{put-so}
+use Rattle.tail_sweeps.proofs.Leaving.{Leaving, leave-from, leave-more, leave-all, leave-long}
 use borrow.Author.Needs.{needs}
 use Rattle.tails.proofs.take_out.Statement.{statement}
 use Rattle.tails.proofs.take_out.Tie as tie
@@ -25,18 +25,6 @@ loop-holds c = let a = c .before .args in let r = c .before .pre in leave-from (
 add-tail-at : tie.Need-add-tail-at Inv-loop μ-loop
 add-tail-at c = search needs
 
-tail-at-requires : tie.Need-tail-at-requires Inv-loop μ-loop
-tail-at-requires c κs =
-    let l = c .before .before in
-    let r = l .before .before .pre in
-    in-words (l .loop .inv .shifting) (l .loop .i + 1) (omega (arith, r))
-
-put-tail-requires : tie.Need-put-tail-requires Inv-loop μ-loop
-put-tail-requires c κs =
-    let l = c .before .before .before .before in
-    let r = l .before .before .pre in
-    (l .loop .inv .shifting .threes, in-words (l .loop .inv .shifting) (l .loop .i) (omega (arith, r, l .loop .inv .upto)))
-
 add-i : tie.Need-add-i Inv-loop μ-loop
 add-i c = search needs
 
@@ -49,13 +37,7 @@ loop-again c =
     let l = p .before .before .before .before .before in
     let a = l .before .before .args in
     let r = l .before .before .pre in
-    leave-more (a .words .now) (a .place) (a .used) (r .1 .0) (r .1 .1) (l .loop .inv) (omega arith) (p .before .before .tail-at .ensures) (p .put-tail .ensures)
-
-put-tail-requires-2 : tie.Need-put-tail-requires-2 Inv-loop μ-loop
-put-tail-requires-2 c κs =
-    let l = c .before .before in
-    let r = l .before .before .pre in
-    (l .loop .inv .shifting .threes, in-words (l .loop .inv .shifting) (l .before .before .args .used - 1) (omega (arith, r)))
+    leave-more (a .words .now) (a .place) (a .used) (r .1 .0) (r .1 .1) (l .loop .inv) (omega arith) (p .before .before .tail-at .ensures) (put-so (l .loop .words) (l .loop .i) _ (l .loop .inv .shifting .threes) (p .put-tail .ensures))
 
 same-length : tie.Need-same-length Inv-loop μ-loop
 same-length c =
@@ -65,7 +47,7 @@ same-length c =
     let r = l .before .before .pre in
     let u = l .loop .inv .upto in
     let e : l .loop .i ≡ a .used - 1 = omega (arith, u) in
-    leave-long (a .words .now) (a .place) (a .used) (r .1 .0) (r .1 .1) (l .loop .inv) (omega (arith, u, e)) (p .put-tail2 .ensures ∙ ap (λ (k : ℕ). wordsOf (set (tailsOf (l .loop .words)) k zeroes)) (sym e))
+    leave-long (a .words .now) (a .place) (a .used) (r .1 .0) (r .1 .1) (l .loop .inv) (omega (arith, u, e)) (put-so (l .loop .words) (a .used - 1) zeroes (l .loop .inv .shifting .threes) (p .put-tail2 .ensures) ∙ ap (λ (k : ℕ). wordsOf (set (tailsOf (l .loop .words)) k zeroes)) (sym e))
 
 returns : tie.Need-returns Inv-loop μ-loop
 returns c =
@@ -75,9 +57,9 @@ returns c =
     let r = l .before .before .pre in
     let u = l .loop .inv .upto in
     let e : l .loop .i ≡ a .used - 1 = omega (arith, u) in
-    leave-all (a .words .now) (a .place) (a .used) (r .1 .0) (r .1 .1) (l .loop .inv) (omega (arith, u, e)) (p .put-tail2 .ensures ∙ ap (λ (k : ℕ). wordsOf (set (tailsOf (l .loop .words)) k zeroes)) (sym e))
+    leave-all (a .words .now) (a .place) (a .used) (r .1 .0) (r .1 .1) (l .loop .inv) (omega (arith, u, e)) (put-so (l .loop .words) (a .used - 1) zeroes (l .loop .inv .shifting .threes) (p .put-tail2 .ensures) ∙ ap (λ (k : ℕ). wordsOf (set (tailsOf (l .loop .words)) k zeroes)) (sym e))
 
 pub take-out-spec : {M : Type 1} → statement M
 take-out-spec =
     tie.close
-    (tie.spec Inv-loop μ-loop sub-last loop-holds add-tail-at tail-at-requires put-tail-requires add-i loop-less loop-again put-tail-requires-2 same-length returns)
+    (tie.spec Inv-loop μ-loop sub-last loop-holds add-tail-at (λ c κs. search needs) (λ c κs. search needs) add-i loop-less loop-again (λ c κs. search needs) same-length returns)

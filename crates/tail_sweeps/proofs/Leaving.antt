@@ -10,8 +10,8 @@ use lib.Seq.{length-take-le, getD-take, take-take, take-append-le, getD-at}
 use Rattle.tail_table.specs.Table.{tailsOf, wordsOf, usedOf, overFirst, zeroes}
 use Rattle.tail_table.specs.Sweeping.{cut}
 use Rattle.tail_table.specs.declared.Tail.{Tail}
 use Rattle.tail_sweeps.proofs.Placing.{cut-long, cut-front, cut-behind}
-use Rattle.tails.proofs.Shifting.{Shifting, shift-from, still-there, shift-more, shift-all}
+use Rattle.tail_sweeps.proofs.Shifting.{Shifting, shift-from, still-there, shift-more, shift-all}
 
 -- what the first records are to be
 abbrev pub lessOf : List ℕ → ℕ → ℕ → List Tail

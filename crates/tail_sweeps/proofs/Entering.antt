@@ -10,8 +10,8 @@ use lib.Seq.{length-take-le, getD-take, take-take}
 use Rattle.tail_table.specs.Table.{tailsOf, wordsOf, fileOf, usedOf, entered, overFirst, zeroes}
 use Rattle.tail_table.specs.Sweeping.{placeOf}
 use Rattle.tail_table.specs.declared.Tail.{Tail}
 use Rattle.tail_sweeps.proofs.Placing.{place-within, entered-long, entered-front, entered-there, entered-behind}
-use Rattle.tails.proofs.Shifting.{Shifting, shift-from, still-there, shift-more, shift-all}
+use Rattle.tail_sweeps.proofs.Shifting.{Shifting, shift-from, still-there, shift-more, shift-all}
 
 -- after the records below i, with the one that comes next in hand
 pub record Entering (w₀ : List ℕ) (place used : ℕ) (t : Tail) (w : List ℕ) (carried : Tail) (i : ℕ) : Type 0 where
