@@ -8,8 +8,7 @@ help:
 	@sed -n 's/^# //p' Makefile
 
 run:
-	@tools/story examples/reload.script
-	@tools/story examples/tails.script
+	@tools/story examples/reload.script examples/tails.script
 
 test:
 	@tools/gate

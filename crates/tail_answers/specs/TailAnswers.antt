@@ -52,7 +52,7 @@ infix 68 _whenever_
 abbrev pub _whenever_ : TailRefusal → Bool → TailBar
 why whenever test = record { why = why; test = test }
 
--- "else .., .. next, .. then": the first whose test holds is given, and where none does, the call is done
+-- "else .. next .. then": the first whose test holds is given, and where none does, the call is done
 abbrev pub verdict : List TailBar → Verdict
 verdict [] = Done
 verdict (b ∷ bs) = pick (b .test) (Refused (b .why)) (verdict bs)

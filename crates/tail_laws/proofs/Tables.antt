@@ -81,3 +81,8 @@ claimed c = verdict (Damaged whenever not (whole (c .record)) ∷ Unstamped when
 pub find-in : {words : List ℕ} {used : ℕ} {us : List Tail} → Leaves words used us → (f : File) (size : ℕ) (c : Claim) → findOf words used f size c ≡ found (claimed c) (lookedUp us f size)
 unfolding pick _or_
 find-in {words} {used} {us} v f size c = simp (v .table .0, v .table .1) (ap (λ (x : List Tail). found (claimed c) (lookedUp x f size)) (v .holds))
+
+-- an empty table is sound, whatever its words hold: a chain can start there
+pub empty-sound : (words : List ℕ) → otherWords (length words) ≡ false → Sound (tableOf words 0)
+unfolding unsound
+empty-sound words h = (h, fails (le-ltb (length (tailsOf words)) 0 (omega arith)) refl)
