@@ -78,11 +78,7 @@ impl File {
     pub fn before(self, other: File) -> bool
         ensures { λ b. ⌜ b ≡ before self other ⌝ }
     {
-        if self.device == other.device {
-            self.inode < other.inode
-        } else {
-            self.device < other.device
-        }
+        (self.device < other.device) | ((self.device == other.device) & (self.inode < other.inode))
     }
 }
 
