@@ -11,8 +11,10 @@ use std::hint::black_box;
 /// Records of the table, and the words of one.
 const RECORDS: usize = 256;
 const WIDTH: usize = 3;
-/// The revision of the settings, and of the stamp.
+/// The revision of the settings and their count of replacements, and the
+/// stamp's.
 const REVISION: u64 = 7;
+const REPLACEMENTS: u64 = 9;
 /// The size of the file that is found, and the offset that a move goes to.
 const SIZE: u64 = 1 << 50;
 const OFFSET: u64 = 1 << 40;
@@ -27,8 +29,10 @@ extern "C" {
         device: u64,
         inode: u64,
         size: u64,
-        accepted: u64,
+        revision: u64,
+        replacements: u64,
         stamped: u64,
+        counted: u64,
     ) -> u64;
     fn edge_move_tail(
         words: &mut [u64],
@@ -36,8 +40,10 @@ extern "C" {
         device: u64,
         inode: u64,
         offset: u64,
-        accepted: u64,
+        revision: u64,
+        replacements: u64,
         stamped: u64,
+        counted: u64,
     ) -> u64;
 }
 
@@ -67,7 +73,8 @@ fn search(words: &[u64], used: usize, device: u64, inode: u64) -> Result<Option<
 
 #[inline(never)]
 fn find_rust(words: &mut [u64], device: u64, inode: u64) -> u64 {
-    let (accepted, stamped) = (black_box(REVISION), black_box(REVISION));
+    let accepted = (black_box(REVISION), black_box(REPLACEMENTS));
+    let stamped = (black_box(REVISION), black_box(REPLACEMENTS));
     match search(words, RECORDS, device, inode) {
         Ok(Some(place)) if accepted == stamped => {
             let offset = words[place * WIDTH + 2];
@@ -82,12 +89,18 @@ fn find_rust(words: &mut [u64], device: u64, inode: u64) -> u64 {
 }
 
 fn find_proved(words: &mut [u64], device: u64, inode: u64) -> u64 {
-    unsafe { edge_find_tail(words, RECORDS, device, inode, SIZE, REVISION, REVISION) }
+    let (revision, count) = (REVISION, REPLACEMENTS);
+    unsafe {
+        edge_find_tail(
+            words, RECORDS, device, inode, SIZE, revision, count, revision, count,
+        )
+    }
 }
 
 #[inline(never)]
 fn move_rust(words: &mut [u64], device: u64, inode: u64) -> u64 {
-    let (accepted, stamped) = (black_box(REVISION), black_box(REVISION));
+    let accepted = (black_box(REVISION), black_box(REPLACEMENTS));
+    let stamped = (black_box(REVISION), black_box(REPLACEMENTS));
     match search(words, RECORDS, device, inode) {
         Err(()) => 7,
         Ok(_) if accepted != stamped => 35,
@@ -101,7 +114,12 @@ fn move_rust(words: &mut [u64], device: u64, inode: u64) -> u64 {
 }
 
 fn move_proved(words: &mut [u64], device: u64, inode: u64) -> u64 {
-    unsafe { edge_move_tail(words, RECORDS, device, inode, OFFSET, REVISION, REVISION) }
+    let (revision, count) = (REVISION, REPLACEMENTS);
+    unsafe {
+        edge_move_tail(
+            words, RECORDS, device, inode, OFFSET, revision, count, revision, count,
+        )
+    }
 }
 
 const FINDS: [Contender; 2] = [("Rust", find_rust), ("Rattle", find_proved)];

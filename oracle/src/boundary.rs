@@ -4,7 +4,9 @@
 
 mod lines;
 mod logs;
+mod maxima;
 mod records;
+mod replacements;
 mod stamped;
 mod statuses;
 mod sweep;
@@ -21,12 +23,16 @@ use std::io::{self, Write};
 type Out<'a> = &'a mut dyn Write;
 
 /// The boundary pairs that document 01 wants run, lengths of 4,096 bytes and of
-/// one more, 64 and 65 actions, and the last serials; and those of the tail
-/// table.
+/// one more, 64 and 65 actions, and the last serials; and those of the count of
+/// replacements and of the tail table.
 pub fn limits(out: Out) -> io::Result<()> {
     transaction::payload_lengths(out)?;
     transaction::action_counts(out)?;
     transaction::serials(out)?;
+    replacements::last_counts(out)?;
+    replacements::refused_openings(out)?;
+    replacements::maxima(out)?;
+    replacements::old_stamps(out)?;
     tails::tail_sizes(out)?;
     tails::tail_counts(out)?;
     tails::tail_orders(out)?;
@@ -41,6 +47,8 @@ pub fn limits(out: Out) -> io::Result<()> {
 pub fn boundary(out: Out) -> io::Result<()> {
     limits(out)?;
     transaction::revisions(out)?;
+    maxima::count_records(out)?;
+    maxima::count_order(out)?;
     transaction::lent_sizes(out)?;
     logs::log_sizes(out)?;
     logs::log_heads(out)?;
@@ -61,7 +69,7 @@ pub fn start(out: Out) -> io::Result<()> {
     writeln!(out, "{}\n{}", line::tails(0), empty())
 }
 
-/// The opening at 0, 0 with an empty payload.
+/// The opening at 0, 0, 0 with an empty payload.
 fn empty() -> String {
     line::open_at(0, 0, "0:0")
 }

@@ -1,7 +1,7 @@
 //! A small seeded generator (splitmix64) and the random numbers and payloads
 //! that scripts are made of.
 //!
-//! Written from document 01 and the page on the driver's script alone.
+//! Written from documents 01 and 02 and the page on the driver's script alone.
 
 mod records;
 
@@ -56,7 +56,7 @@ impl Dice {
     }
 
     pub fn opening(&mut self) -> Opening {
-        Opening { revision: self.any(), serial: self.any() }
+        Opening { revision: self.any(), serial: self.any(), replacements: self.any() }
     }
 
     pub fn length(&mut self) -> u64 {

@@ -4,7 +4,7 @@
 //! Written from the page on the driver's script alone.
 
 use crate::model::row::{KIND, RESTORING, STAGED};
-use crate::model::{Claim, File, Opening, Record, Stamp, Tail, Task, Work};
+use crate::model::{Claim, File, Opening, Record, Tail, Task, Work};
 use crate::place::Place;
 
 /// Numbers parted by single spaces.
@@ -21,18 +21,14 @@ pub fn put(place: Place, index: u64, value: u64) -> String {
     format!("put {} {} {}", place, index, value)
 }
 
-/// The opening at a revision and a serial.
+/// The opening at a revision and a serial, of settings that were never
+/// replaced.
 pub fn open_at(revision: u64, serial: u64, payload: &str) -> String {
     open(Opening::at(revision, serial), payload)
 }
 
 pub fn open(opening: Opening, payload: &str) -> String {
     format!("open {} {}", join(&opening.words()), payload)
-}
-
-/// The check of a stamp with a domain and a revision.
-pub fn check_of(domain: u64, stamped: u64, revision: u64) -> String {
-    check(Claim { domain, stamp: Stamp { domain: stamped, revision } })
 }
 
 pub fn check(claim: Claim) -> String {
@@ -69,7 +65,7 @@ pub fn row(numbers: &[u64]) -> String {
     format!("record {}", join(numbers))
 }
 
-/// The record of an opening at 0, 0 with one number of its row another.
+/// The record of an opening at 0, 0, 0 with one number of its row another.
 pub fn row_with(at: usize, number: u64) -> String {
     let mut numbers = Record::default().row();
     numbers[at] = number;
@@ -86,7 +82,7 @@ pub fn bad_rows() -> Vec<String> {
 /// too many, and with a number past its range.
 pub fn bad_tails() -> Vec<String> {
     let (offset, size) = (5, 6);
-    let claim = Claim { domain: 3, stamp: Stamp { domain: 3, revision: 0 } };
+    let claim = Claim::of(&Record::default(), 3);
     let finds = [false, true].map(|structs| Task::Find { structs, size, claim });
     let moves = [false, true].map(|structs| Task::Move { structs, offset, claim });
     let tasks = [&[Task::Add { offset }, Task::Remove], &finds[..], &moves[..]].concat();

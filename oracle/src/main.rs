@@ -34,8 +34,8 @@ const USAGE: &str = "usage:
   oracle start               prints the lines that lend what the driver lends at
                              its start, and that open
   oracle boundary            prints the fixed script of boundary cases
-  oracle limits              prints its part on lengths, actions, serials and
-                             the tail table
+  oracle limits              prints its part on lengths, actions, serials, the
+                             count of replacements and the tail table
   oracle sweep               prints the fixed script of all small records
   oracle reach               prints a short script that reaches every call with
                              every answer, through a log and without one

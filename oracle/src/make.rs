@@ -9,6 +9,7 @@ mod episodes;
 mod lines;
 mod logs;
 mod odd;
+mod stamps;
 mod statuses;
 mod tails;
 
@@ -76,7 +77,7 @@ impl Maker<'_> {
         if self.dice.chance(80) {
             self.right_sizes()?;
         }
-        match self.dice.below(22) {
+        match self.dice.below(23) {
             0..=4 => self.chain()?,
             5..=8 => self.placed()?,
             9 | 10 => self.damaged()?,
@@ -84,9 +85,10 @@ impl Maker<'_> {
             13 | 14 => self.full_log()?,
             15 => self.broken_head()?,
             16 => self.status()?,
-            17 => self.top_revision()?,
+            17 => self.maxima()?,
             18 => self.nearly_worn()?,
             19 | 20 => self.tails()?,
+            21 => self.stamped()?,
             _ => self.odd_lines()?,
         }
         Ok(())

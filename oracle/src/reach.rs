@@ -1,15 +1,17 @@
 //! A short script that reaches every call with every answer that it can have,
-//! through a log where it can go through one, and without.
+//! through a log where it can go through one, and without; and Capacity by each
+//! maximum that gives it.
 //!
-//! Written from document 01 and the page on the driver's script alone. The
+//! Written from documents 01 and 02 and the page on the driver's script alone. The
 //! maker's episodes are drawn by seeds in turn. One is kept that reaches what
 //! none before it did, up to the last call that does, and is looked at then.
 
 use crate::answer::{Answer, Refusal};
 use crate::make;
-use crate::model::{About, Name, CALLS};
+use crate::model::{About, Name, Record, CALLS};
 use crate::place::Place;
 use crate::script::{Made, Player, Reply};
+use crate::sizes::TOP;
 use crate::tally::{allowed, column_of, counted, Column};
 use std::collections::BTreeSet;
 use std::io::{self, Write};
@@ -19,8 +21,40 @@ const DRAWS: u64 = 100_000;
 /// An episode of more bytes is not kept.
 const EPISODE_MOST: usize = 400;
 
-/// A call with its answer, and whether it went through a log.
-pub type Kind = (Name, Column, bool);
+/// Which numbers of a record are at their maximum.
+#[derive(Clone, Copy, Debug, PartialEq, Eq, PartialOrd, Ord)]
+pub enum Maximum {
+    Revision,
+    Replacements,
+    Both,
+}
+
+/// A call with its answer, whether it went through a log, and of Capacity what
+/// is at its maximum.
+pub type Kind = (Name, Column, bool, Option<Maximum>);
+
+const CAPACITY: Answer = Answer::Refused(Refusal::Capacity);
+
+/// What can be at its maximum where a call has an answer.
+fn maxima(about: &About, column: Column) -> &'static [Option<Maximum>] {
+    use Maximum::{Both, Replacements, Revision};
+    if column != column_of(CAPACITY) {
+        &[None]
+    } else if about.name == Name::Refresh {
+        &[Some(Replacements), Some(Both)]
+    } else {
+        &[Some(Revision), Some(Replacements), Some(Both)]
+    }
+}
+
+fn maximum(record: &Record) -> Option<Maximum> {
+    match (record.revision == TOP, record.replacements == TOP) {
+        (true, false) => Some(Maximum::Revision),
+        (false, true) => Some(Maximum::Replacements),
+        (true, true) => Some(Maximum::Both),
+        (false, false) => None,
+    }
+}
 
 /// Whether a call can have an answer through a log, or without one.
 fn possible(about: &About, column: Column, logged: bool) -> bool {
@@ -37,8 +71,10 @@ pub fn kinds() -> BTreeSet<Kind> {
     let mut kinds = BTreeSet::new();
     for about in &CALLS {
         for column in allowed(about) {
-            let ways = [false, true].into_iter().filter(|way| possible(about, column, *way));
-            kinds.extend(ways.map(|way| (about.name, column, way)));
+            for logged in [false, true].into_iter().filter(|way| possible(about, column, *way)) {
+                let maxima = maxima(about, column).iter();
+                kinds.extend(maxima.map(|maximum| (about.name, column, logged, *maximum)));
+            }
         }
     }
     kinds
@@ -47,7 +83,9 @@ pub fn kinds() -> BTreeSet<Kind> {
 /// The kind of a call that was made, a log being lent or not.
 pub fn kind(made: &Made, lent: bool) -> Kind {
     let column = counted(made.name, &made.answered);
-    (made.name, column, lent && possible(made.name.about(), column, true))
+    let logged = lent && possible(made.name.about(), column, true);
+    let maximum = if column == column_of(CAPACITY) { maximum(&made.before) } else { None };
+    (made.name, column, logged, maximum)
 }
 
 /// An episode: its lines up to the last call that reaches something first,

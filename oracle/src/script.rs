@@ -6,16 +6,15 @@
 use crate::answer::Answered;
 use crate::command;
 use crate::driver::{Driver, Said};
-use crate::model::Name;
+use crate::model::{Name, Record};
 use crate::sizes::LINE_MOST;
 use crate::text::{answer_text, shown};
 use std::io::{self, BufRead, Write};
 
-/// A call that was made: its name, the phase of the record before it where
-/// that was whole, and its answer.
+/// A call that was made: its name, the record before it, and its answer.
 pub struct Made {
     pub name: Name,
-    pub phase: Option<u64>,
+    pub before: Record,
     pub answered: Answered,
 }
 
@@ -66,11 +65,10 @@ impl Player {
             None => return Reply::Bad(self.lines),
             Some(command) => command,
         };
-        let record = &self.driver.record;
-        let phase = if record.whole() { Some(record.phase) } else { None };
+        let before = self.driver.record.clone();
         match self.driver.obey(command) {
             Said::Nothing => Reply::Nothing,
-            Said::Answered(name, answered) => Reply::Answered(Made { name, phase, answered }),
+            Said::Answered(name, answered) => Reply::Answered(Made { name, before, answered }),
             Said::Show => Reply::Shown(shown(&self.driver)),
         }
     }

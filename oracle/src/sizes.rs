@@ -3,8 +3,8 @@
 //!
 //! Written from those three alone.
 
-/// The largest u64: no begin is made at this revision, and no serial is given
-/// past it.
+/// The largest u64: no begin is made at this revision, no settings are replaced
+/// at this count of replacements, and no serial is given past it.
 pub const TOP: u64 = u64::MAX;
 
 /// Bytes of an area; a payload is at most as long.

@@ -97,8 +97,8 @@ impl Tally {
 
     pub fn count(&mut self, made: &Made) {
         *self.cells.entry((made.name, counted(made.name, &made.answered))).or_insert(0) += 1;
-        if let Some(phase) = made.phase {
-            self.phases[phase as usize] += 1;
+        if made.before.whole() {
+            self.phases[made.before.phase as usize] += 1;
         }
     }
 

@@ -8,7 +8,7 @@ mod scripts;
 mod shrinking;
 mod tails;
 
-use crate::model::{Opening, Record};
+use crate::model::{Claim, Opening, Record, Stamp};
 use crate::{line, script};
 use std::borrow::Borrow;
 
@@ -39,12 +39,18 @@ fn record_after<Line: Borrow<str>>(lines: &[Line]) -> Record {
     player.driver.record
 }
 
-/// The opening at a revision and a serial.
+/// The opening at a revision and a serial, of settings that were never
+/// replaced.
 fn open(revision: u64, serial: u64, payload: &str) -> String {
     line::open(Opening::at(revision, serial), payload)
 }
 
-/// The record of an opening at 0, 0, but staged.
+/// A stamp of domain 3 at a revision and a count of replacements.
+fn stamped(revision: u64, replacements: u64) -> Claim {
+    Claim { domain: 3, stamp: Stamp { domain: 3, revision, replacements } }
+}
+
+/// The record of an opening at 0, 0, 0, but staged.
 fn staged() -> Record {
     Record { staged: true, ..Record::default() }
 }

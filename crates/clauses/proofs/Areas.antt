@@ -9,7 +9,7 @@ use Rattle.areas.specs.Areas.{sized, copied}
 use Rattle.batch.specs.Batch.{limit, tableSized, paired, stored}
 use Rattle.batch.proofs.Laws.{stored-identities}
 use Rattle.phases.specs.{declared.Next.Next, declared.Next.the-variants.To, declared.Next.the-variants.Nowhere}
-use Rattle.record.specs.{Answers.Told, Leaves.Leaves, Given.beginning, Fields.top, declared.Record.Record, declared.Outcome.Outcome}
+use Rattle.record.specs.{Answers.Told, Leaves.Leaves, Given.beginning, declared.Record.Record, declared.Outcome.Outcome, Given.standing}
 use Rattle.record.specs.{declared.Beginning.Beginning}
 use Rattle.answers.specs.{Classes.refused, Classes.Class.performed}
 use Rattle.wholeness.specs.Whole.{whole}
@@ -19,6 +19,7 @@ use Rattle.step_begins.specs.Beginning.{editBars, editOwn}
 use Rattle.step_structure.specs.Structure.{onward, advanced, structureDone, reportStructureBars, reportStructureOwn}
 use Rattle.calls.specs.{Calls.Report, Calls.Call, Calls.step, Calls.AnyCall.calls, Lending.Stored.structured, Lending.Stored.updated, Lending.Stored.rolledBack, Lending.Lending}
 use Rattle.calls.specs.{Lending.callOf, Lending.fits, Lending.moved, Lending.leavesOf, Lending.Lending.begin, Lending.Lending.report, Lending.Lending.edit}
+use Rattle.demand_steps.specs.Typed.{Typed}
 use Rattle.demand_steps.proofs.{Own.own, Own.row, Facts.Whole}
 use Rattle.clauses.specs.{Lending.Stages, Lending.Holds, Lending.SameIdentities, Staging.Begun, Gaps.BeginAnswer, Gaps.Rejects, Recording.unlogged}
 use Rattle.clauses.proofs.{Splitting.Kept, Splitting.by, Splitting.past, Splitting.outcomes, Splitting.facts-after, Splitting.on-step, Stagings.begin-answer, Stagings.begin-clauses, Lendings.lends}
@@ -43,7 +44,7 @@ unfolding onward
 on-keeps (To next) q = (refl, refl)
 on-keeps Nowhere q = (refl, refl)
 
-module _ (r : Record) (m : r .revision ≤ top) (w : whole r ≡ true) where
+module _ (r : Record) (m : Typed (standing r)) (w : whole r ≡ true) where
   -- where all sizes are right, what holds of the step holds of what is told
   of-told : (P : Told → Type 0) (c : Lending false) {d : Call} → callOf c ≡ calls d → fits c ≡ true → P (step r d) → P (leavesOf r c .told)
   of-told P c e s p = subst P (sym (lends r c e .tells s)) p

@@ -7,11 +7,12 @@ use lib.Dec.{eqb}
 use borrow.Author.Tests.{lt-ltb, le-ltb, not-true}
 use Rattle.choice.specs.Pick.{pick, _or_}
 use Rattle.choice.proofs.Tests.{both, either}
-use Rattle.record.specs.{Fields.top, declared.Record.Record, declared.Opening.Opening}
+use Rattle.record.specs.{declared.Record.Record, declared.Opening.Opening}
 use Rattle.answers.specs.{Classes.successful, Classes.Class.performed}
 use Rattle.completeness.specs.Complete.{complete}
 use Rattle.step_opens.specs.Opening.{openStep}
 use Rattle.calls.specs.{Calls.step, Calls.Call.commit, Calls.Call.recover}
+use Rattle.demand_steps.specs.Typed.{Typed}
 use Rattle.demand_steps.specs.Watching.{Item, Watch, watch, unwatched}
 use Rattle.demand_steps.proofs.{Facts.Stage, Facts.tests, Facts.Behind, Facts.byCase, Testing.ranges, Calming.range, Wholeness.whole-test}
 use Rattle.demand_steps.proofs.Facts.Stage.{flat, flatBack, before, updating, after, undoing, backing}
@@ -88,7 +89,7 @@ unfolding complete
 not-restoring r e = not-true _ (both e .0)
 
 -- in every chain from an opening that is not refused
-module _ (sized : Bool) (given : Opening) (l : ℕ) (m : given .revision ≤ top) (o : successful (openStep sized given l .class) ≡ true) (ss : List Sent) where
+module _ (sized : Bool) (given : Opening) (l : ℕ) (m : Typed given) (o : successful (openStep sized given l .class) ≡ true) (ss : List Sent) where
   abbrev now : Record
   now = afterSent (openStep sized given l .state) ss
 

@@ -1,7 +1,6 @@
 -- The clauses of every call on a whole record, gathered. Assumes nothing.
-use Prim.Native.Nat.{_≤_}
 use mathlib.Core.{Path._≡_, Bool.true}
-use Rattle.record.specs.{Fields.top, declared.Record.Record}
+use Rattle.record.specs.{declared.Record.Record, Given.standing}
 use Rattle.wholeness.specs.Whole.{whole}
 use Rattle.calls.specs.{Calls.Call, Calls.step, Calls.Work.structure, Calls.Work.update, Calls.Work.rollback, Calls.Report.structured, Calls.Report.updated}
 use Rattle.calls.specs.{Calls.Report.rolledBack}
@@ -10,8 +9,9 @@ use Rattle.clauses.specs.Clauses.{Clauses}
 use Rattle.clauses.proofs.{Structures.structure-asked, Structures.structure-reported, Stagings.begin-clauses, Stagings.edit-clauses, Endings.commit-clauses}
 use Rattle.clauses.proofs.{Endings.recover-clauses, Endings.recover-retained-clauses, Refreshes.refresh-clauses, Refreshes.stamp-clauses, Refreshes.check-clauses}
 use Rattle.clauses.proofs.Polls.{update-asked, update-reported, rollback-asked, rollback-reported}
+use Rattle.demand_steps.specs.Typed.{Typed}
 
-pub clauses : (r : Record) → r .revision ≤ top → whole r ≡ true → (c : Call) → Clauses r c (step r c)
+pub clauses : (r : Record) → Typed (standing r) → whole r ≡ true → (c : Call) → Clauses r c (step r c)
 clauses r m w (begin structural b) = begin-clauses r b m w structural
 clauses r m w (ask structure) = structure-asked r m w
 clauses r m w (ask update) = update-asked r m w

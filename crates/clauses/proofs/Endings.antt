@@ -9,17 +9,18 @@ use Rattle.choice.specs.Pick.{pick, _or_}
 use Rattle.choice.proofs.{Picks.yes, Picks.no, Tests.tests, Tests.never, Tests.both, Tests.either, Tests.neither}
 use Rattle.areas.specs.Areas.{areaSize}
 use Rattle.areas.proofs.Laws.{over, within, not-over}
-use Rattle.record.specs.{Answers.Told, Answers.answer, Fields.top, declared.Record.Record}
+use Rattle.record.specs.{Answers.Told, Answers.answer, declared.Record.Record}
 use Rattle.answers.specs.{Classes.Class, Classes.Class.refusal, declared.Answer.the-variants.Done, declared.Was.the-variants.Three}
 use Rattle.answers.specs.{declared.Refusal.the-variants.Idle, declared.Refusal.the-variants.NotReady}
 use Rattle.wholeness.specs.{Whole.whole}
 use Rattle.completeness.specs.{Complete.complete}
 use Rattle.gates.specs.{Gates.Bar, Gates.barring, Gates.longSnapshot}
 use Rattle.gates.proofs.Passing.{Clear, fails}
-use Rattle.record.specs.Given.{opening}
+use Rattle.record.specs.Given.{opening, standing}
 use Rattle.step_ends.specs.Ending.{afterCommit, commitBars, commitOwn}
 use Rattle.step_recoveries.specs.Recovering.{unrestored, recoverBars, recoveredTo, recoverOwn, recoverRetainedOwn}
 use Rattle.calls.specs.{Calls.Call, Calls.step, Calls.Call.commit, Calls.Call.recover, Calls.Call.recoverRetained}
+use Rattle.demand_steps.specs.Typed.{Typed}
 use Rattle.demand_steps.proofs.{Own.own, Reading.whole-facts, Testing.ranges}
 use Rattle.clauses.specs.{Keeping.gained, Gaps.RecoverAnswer}
 use Rattle.clauses.specs.Ending.{CanCommit, Committed, CommitClauses, CanRecover, Recovered, RecoverClauses}
@@ -46,7 +47,7 @@ all-applied : (r : Record) → complete r ≡ true → r .applied ≡ r .entries
 unfolding complete
 all-applied r e = eqb-true _ _ (both e .1)
 
-module _ (r : Record) (m : r .revision ≤ top) (w : whole r ≡ true) where
+module _ (r : Record) (m : Typed (standing r)) (w : whole r ≡ true) where
   can-commit : Clear (commitBars r) → CanCommit r
   can-commit x = let f = fails (commitBars r) x in let y = neither (f NotReady) in
       record { staged = not-false _ (f Idle); complete = not-false _ (y .0); place = not-false _ (y .1) }

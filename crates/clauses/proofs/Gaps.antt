@@ -8,7 +8,7 @@ use Rattle.choice.specs.Pick.{pick}
 use Rattle.choice.proofs.Tests.{tests, both, join, eqb-ne}
 use Rattle.phases.specs.Phases.{updates, adopt, undo, recoverRemove}
 use Rattle.areas.specs.Areas.{areaSize}
-use Rattle.record.specs.{Answers.Told, Fields.top, Fields.adopting, declared.Record.Record, declared.Outcome.Outcome}
+use Rattle.record.specs.{Answers.Told, Fields.adopting, declared.Record.Record, declared.Outcome.Outcome, Given.standing}
 use Rattle.record.specs.{declared.Outcome.the-variants.Done}
 use Rattle.answers.specs.{Classes.Class.stepping, Classes.StepAnswer.finished}
 use Rattle.tickets.specs.{Live.isLive}
@@ -23,12 +23,13 @@ use Rattle.step_updates.specs.Updates.{updateDone, reportUpdateBars, reportUpda
 use Rattle.step_undos.specs.Undos.{leaving, rollbackDone, reportRollbackBars, reportRollbackOwn}
 use Rattle.calls.specs.{Calls.step, Calls.Work.structure, Calls.Work.update, Calls.Work.rollback, Calls.Report.structured, Calls.Report.updated, Calls.Report.rolledBack}
 use Rattle.calls.specs.{Calls.Call.ask, Calls.Call.report}
+use Rattle.demand_steps.specs.Typed.{Typed}
 use Rattle.demand_steps.proofs.{Own.own, Moves.choice, Moves.turn}
 use Rattle.clauses.specs.Gaps.{Succeeds, StructureAsked, AtFinished, RollbackAsked}
 use Rattle.clauses.proofs.Splitting.{Kept, clash, differ, unended, by, past, outcomes, on-step}
 use Rattle.clauses.proofs.Onward.{no-successor, ended, exclusive, onwards}
 
-module _ (r : Record) (m : r .revision ≤ top) (w : whole r ≡ true) where
+module _ (r : Record) (m : Typed (standing r)) (w : whole r ≡ true) where
   -- a Done report with the live ticket, whose payloads fit
   pub report-advances : (t c o : ℕ) → isLive Tickets.structure t (r .live) ≡ true → c ≤ areaSize → o ≤ areaSize → Succeeds r (step r (report (structured c o) t Done))
   unfolding own reportStructureOwn reported structureDone

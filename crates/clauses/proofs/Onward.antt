@@ -7,20 +7,21 @@ use borrow.Author.Tests.{eqb-true}
 use Rattle.choice.specs.Pick.{pick, _or_}
 use Rattle.choice.proofs.Tests.{either, neither}
 use Rattle.phases.specs.{Phases.hasSuccessor, Phases.successor, Phases.boundary, declared.Next.the-variants.To}
-use Rattle.record.specs.{Fields.top, Fields.spent, Fields.withPlace, declared.Record.Record}
+use Rattle.record.specs.{Fields.spent, Fields.withPlace, declared.Record.Record, Given.standing}
 use Rattle.tickets.specs.{Live.isLive, declared.Live.Live}
 use Rattle.tickets.specs.Live as Tickets
 use Rattle.wholeness.specs.Whole.{whole}
 use Rattle.step_structure.specs.Structure.{advanced, storing}
+use Rattle.demand_steps.specs.Typed.{Typed}
 use Rattle.demand_steps.proofs.{Leaf.Apart, Facts.Calm, Facts.tests, Facts.byCase, Facts.Calm.on, Facts.Calm.off, Reading.whole-facts, Reading.apart-of, Testing.ranges}
 use Rattle.demand_steps.proofs.{Testing.right, Wholeness.left, Wholeness.successor-test, Tickets.onStructure, Moves.goes-up, Moves.goes-down, Moves.goes-up, Moves.goes-down}
 use Rattle.clauses.specs.Structure.{Stepping, Advances, Stepping, Advances}
 use Rattle.clauses.proofs.Splitting.{nope, nope}
 
 -- a phase is staged
-pub calm-staged : {s : Bool} {v p n : ℕ} {l : Live} → Calm s v p n l → p ≢ 0 → s ≡ true
-calm-staged (on e h) n = e
-calm-staged (off e h z q l) n = absurd (n z)
+pub calm-staged : {s : Bool} {v c p n : ℕ} {l : Live} → Calm s v c p n l → p ≢ 0 → s ≡ true
+calm-staged (on e h g) n = e
+calm-staged (off e h g z q l) n = absurd (n z)
 
 -- 0, 5 and 8 have no successor
 pub no-successor : {P : Type 0} (p : ℕ) → eqb p 0 or eqb p 5 or eqb p 8 ≡ true → hasSuccessor p ≡ true → P
@@ -53,7 +54,7 @@ has-one p m e d =
     let z = neither d in
     successor-test p m (omega (tests, y, z, x .1))
 
-module _ (r : Record) (m : r .revision ≤ top) (w : whole r ≡ true) (t : ℕ) (l : isLive Tickets.structure t (r .live) ≡ true) where
+module _ (r : Record) (m : Typed (standing r)) (w : whole r ≡ true) (t : ℕ) (l : isLive Tickets.structure t (r .live) ≡ true) where
   apart : Apart (r .phase .number)
   apart = onStructure (whole-facts r m w) l .apart
 

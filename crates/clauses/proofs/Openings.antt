@@ -7,7 +7,7 @@ use borrow.Author.Tests.{not-false}
 use Rattle.choice.proofs.{Picks.no, Tests.both}
 use Rattle.areas.specs.Areas.{areaSize, sized, copied}
 use Rattle.areas.proofs.Laws.{within, not-over}
-use Rattle.record.specs.{Answers.Told, Answers.answer, Leaves.moving, Given.at, Fields.top, declared.Opening.Opening}
+use Rattle.record.specs.{Answers.Told, Answers.answer, Leaves.moving, Given.at, declared.Opening.Opening}
 use Rattle.answers.specs.{Classes.Class.performed, Classes.refused, declared.Answer.the-variants.Done, declared.Was.the-variants.Nothing}
 use Rattle.answers.specs.declared.Refusal.the-variants.{BadArea, LongSnapshot}
 use Rattle.wholeness.specs.Whole.{whole}
@@ -17,22 +17,23 @@ use Rattle.log.specs.Log.{headWords, blank}
 use Rattle.events.proofs.Soundness.{blank-is}
 use Rattle.noting.specs.{Recorded.withLog, Through.leavesThrough}
 use Rattle.calls.specs.Lending.{Lending, leavesOf, unopened}
+use Rattle.demand_steps.specs.Typed.{Typed}
 use Rattle.demand_steps.proofs.{Wholeness.whole-test, Advancing.idles}
 use Rattle.clauses.specs.{Staging.OpenClauses, Lending.Opens, Recording.OpenRecorded}
 use Rattle.clauses.proofs.{Splitting.Decided, Splitting.decide, Splitting.decides, Splitting.only, Splitting.keeps, Lendings.payload-copied}
 
 -- an opening is whole
-opening-whole : (given : Opening) (l : ℕ) → given .revision ≤ top → l ≤ areaSize → whole (opening given l) ≡ true
+opening-whole : (given : Opening) (l : ℕ) → Typed given → l ≤ areaSize → whole (opening given l) ≡ true
 opening-whole given l m h = whole-test (idles given l m h)
 
-module _ (given : Opening) (m : given .revision ≤ top) where
+module _ (given : Opening) (m : Typed given) where
   module _ (sizes : Bool) (l : ℕ) where
     pub opened : Decided unopened (λ c. refused c ≡ true) (answer (Done Nothing) (opening given l)) (openBars sizes l) (openStep sizes given l)
     unfolding openStep
     opened = decide (openBars sizes l) (λ e. refl, λ e₁. (λ e. refl, λ e₂. refl))
 
     wf : {t : Told} → Decided unopened (λ c. refused c ≡ true) (answer (Done Nothing) (opening given l)) (openBars sizes l) t → whole (t .state) ≡ true
-    wf (Decided.refuses n e) = opening-whole (at 0 0) 0 (omega arith) (omega arith)
+    wf (Decided.refuses n e) = opening-whole (at 0 0 0) 0 (omega arith) (omega arith)
     wf (Decided.does x) = opening-whole given l m (within l (fails (openBars sizes l) x LongSnapshot))
 
     pub open-clauses : OpenClauses sizes given l (openStep sizes given l)

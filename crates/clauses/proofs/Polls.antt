@@ -1,12 +1,12 @@
 -- `poll_update` and `poll_rollback`, clause by clause: of the asking and of the report. Assumes nothing.
-use Prim.Native.Nat.{ℕ, _≤_, _<_}
+use Prim.Native.Nat.{ℕ, _<_}
 use mathlib.Core.{Path._≡_, Path.refl, Path.sym, Path._∙_, Path.ap, Bool.true, Bool.false, Bool.not, Logic._≢_}
 use native.Mathlib.Omega.{arith}
 use lib.Dec.{eqb}
 use borrow.Author.Tests.{ne-eqb, leb-true, not-true, not-false}
 use Rattle.choice.specs.Pick.{_or_}
 use Rattle.choice.proofs.Tests.{never, either, neither, join, no-left, no-right, tests}
-use Rattle.record.specs.{Answers.Told, Fields.top, Fields.adopting, declared.Record.Record, declared.Outcome.Outcome}
+use Rattle.record.specs.{Answers.Told, Fields.adopting, declared.Record.Record, declared.Outcome.Outcome, Given.standing}
 use Rattle.answers.specs.{Classes.taken, Classes.Class.refusal, Classes.Class.stepping, Classes.StepAnswer.finished}
 use Rattle.answers.specs.{declared.Refusal.the-variants.Recovering}
 use Rattle.wholeness.specs.Whole.{whole}
@@ -16,6 +16,7 @@ use Rattle.step_rollbacks.specs.Rollbacks.{turned, askRollbackOwn}
 use Rattle.step_updates.specs.Updates.{updateDone, reportUpdateBars, reportUpdateOwn}
 use Rattle.step_undos.specs.Undos.{leaving, rollbackDone, reportRollbackBars, reportRollbackOwn}
 use Rattle.calls.specs.{Calls.step, Calls.Work.update, Calls.Work.rollback, Calls.Report.updated, Calls.Report.rolledBack, Calls.Call.ask, Calls.Call.report}
+use Rattle.demand_steps.specs.Typed.{Typed}
 use Rattle.demand_steps.proofs.{Own.own, Reading.whole-facts, Testing.ranges, Wholeness.updates-test, Tickets.onUpdate, Tickets.onRollback}
 use Rattle.clauses.specs.{Keeping.gained, Keeping.SameStaged, Keeping.Framed, Polls.unfinished, Polls.UpdateClauses, Polls.RollbackClauses}
 use Rattle.clauses.proofs.Splitting.{clash, nope, differ, unended, beyond, by, past, outcomes, on-step}
@@ -24,7 +25,7 @@ use Rattle.clauses.proofs.Splitting.{clash, nope, differ, unended, beyo
 astray : {P : Type 0} (p : ℕ) → eqb p 0 or eqb p 5 ≡ true → p ≢ 0 → p ≢ 5 → P
 astray p e y z = either e (λ i. absurd (omega tests)) (λ i. absurd (omega tests))
 
-module _ (r : Record) (m : r .revision ≤ top) (w : whole r ≡ true) where
+module _ (r : Record) (m : Typed (standing r)) (w : whole r ≡ true) where
   abbrev Updates : Told → Type 0
   Updates = UpdateClauses r
 

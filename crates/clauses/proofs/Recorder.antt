@@ -1,12 +1,12 @@
 -- The recorder, clause by clause: what it does about any step, and so each of its twelve calls against the same call without a log.
 -- Through a log whose size and head are right, and unless the answer is 12, the clauses of the call below are carried over. Assumes
 -- nothing.
-use Prim.Native.Nat.{ℕ, _≤_}
+use Prim.Native.Nat.{ℕ}
 use mathlib.Core.{Path._≡_, Path.refl, Path.sym, Path._∙_, Path.ap, Path.subst, Bool.Bool, Bool.true, Bool.false, Bool.not, List.List, List._∷_, Logic._≢_}
 use borrow.Author.Tests.{not-true, not-false}
 use Rattle.choice.specs.Pick.{pick, _and_, _or_}
 use Rattle.choice.proofs.{Picks.yes, Picks.no, Picks.picked, Picks.each, Tests.both, Tests.never}
-use Rattle.record.specs.{Answers.Told, Answers.refuse, Leaves.Leaves, Leaves.leaves, Leaves.moving, Fields.top, declared.Record.Record}
+use Rattle.record.specs.{Answers.Told, Answers.refuse, Leaves.Leaves, Leaves.leaves, Leaves.moving, declared.Record.Record, Given.standing}
 use Rattle.answers.specs.{Classes.Class, Classes.refused, Classes.refusalWritten, Classes.callWritten, Classes.Class.performed, Classes.Class.refusal}
 use Rattle.answers.specs.{Classes.Class.stepping, declared.Refusal.Refusal, declared.Refusal.the-variants.BadArea}
 use Rattle.answers.specs.{declared.Refusal.the-variants.Damaged, declared.Refusal.the-variants.LogFull}
@@ -16,6 +16,7 @@ use Rattle.log.specs.Log.{sound, appended}
 use Rattle.noting.specs.{Recorded.withLog, Recorded.recorded, Through.inner, Through.logs, Through.leavesThrough}
 use Rattle.calls.specs.{Calls.Call, Calls.AnyCall, Calls.stepOf, Calls.AnyCall.calls, Kinds.kindOf, Kinds.writtenAs}
 use Rattle.calls.specs.Lending.{Lending, callOf, fits, lent, moved}
+use Rattle.demand_steps.specs.Typed.{Typed}
 use Rattle.demand_refusals.{specs.Refusals.returned, proofs.ExactRefusals.refusal-returns}
 use Rattle.demand_steps.proofs.Testing.{not-yes}
 use Rattle.clauses.specs.{Clauses.Clauses, Lending.Lends, Lending.unrecorded, Recording.unlogged, Recording.Recorded, Recording.Through, Recording.Carries}
@@ -112,6 +113,6 @@ module _ (r : Record) (log : List ℕ) (c : Lending true) {d : Call} (e : callOf
     pub carried-over : (P : Leaves → Type 0) → P (unrecorded r c) → P (unlogged (leavesThrough r log c))
     carried-over P p = subst P (sym (recorded-clauses .ready z h .c264 n)) p
 
-    pub carried : r .revision ≤ top → whole r ≡ true → Carries r c d (leavesThrough r log c)
+    pub carried : Typed (standing r) → whole r ≡ true → Carries r c d (leavesThrough r log c)
     carried m w = let x = lends r c e in
         record { told = carried-over (λ v. Clauses r d (v .told)) (rw (x .tells (fit (fits c) log z)) (clauses r m w d)); lends = carried-over (Lends r c d) x }

@@ -1,12 +1,12 @@
 -- How a clause is shown of a step: on a whole record it is the call's own, whose refusals stand in a row, whose tests are split one by
 -- one, and whose report is split by its outcome. Assumes nothing.
-use Prim.Native.Nat.{ℕ, _≤_}
+use Prim.Native.Nat.{ℕ}
 use mathlib.Core.{Path._≡_, Path.refl, Path.sym, Path._∙_, Path.ap, Path.subst, Bool.Bool, Bool.true, Bool.false, Bool._&&_, List.List, List.[], List._∷_, Logic._↔_}
 use lib.Dec.{eqb}
 use borrow.Author.Tests.{ne-eqb}
 use Rattle.choice.specs.Pick.{pick, _and_, _or_}
 use Rattle.choice.proofs.{Picks.picked, Tests.never, Tests.both, Tests.eqb-ne}
-use Rattle.record.specs.{Answers.Told, Answers.told, Answers.refuse, Given.effectOf, Fields.top, declared.Record.Record, declared.Outcome.Outcome}
+use Rattle.record.specs.{Answers.Told, Answers.told, Answers.refuse, Given.effectOf, declared.Record.Record, declared.Outcome.Outcome, Given.standing}
 use Rattle.answers.specs.{Classes.Class.performed, Classes.Class.refusal, Classes.Class.stepping, Classes.StepAnswer.finished, Answers.said}
 use Rattle.answers.specs.{declared.Refusal.Refusal}
 use Rattle.answers.specs.Classes.{Class, StepAnswer, refusalNumber, numberOf, refused, takes, taken}
@@ -17,6 +17,7 @@ use Rattle.gates.specs.{Gates.Bar, Gates.barring}
 use Rattle.gates.proofs.Passing.{Clear}
 use Rattle.reporting.specs.Reporting.{reported}
 use Rattle.calls.specs.Calls.{Call, step}
+use Rattle.demand_steps.specs.Typed.{Typed}
 use Rattle.demand_steps.proofs.{Own.own, Own.whole-step, Facts.Whole, Classify.leaf, Preserve.preserve, Reading.whole-facts, Wholeness.whole-test}
 use Rattle.clauses.specs.{Keeping.gains, Polls.unfinished}
 pub use Rattle.demand_chains.proofs.Granting.{clash}
@@ -112,7 +113,7 @@ module _ {r : Record} {E : Class → Type 0} {done : Told} where
   keeps Q (does y) q d = d
 
 -- the step of a whole record, whose revision is a u64
-module _ (r : Record) (m : r .revision ≤ top) (w : whole r ≡ true) (c : Call) where
+module _ (r : Record) (m : Typed (standing r)) (w : whole r ≡ true) (c : Call) where
   pub facts-after : Whole (step r c .state)
   facts-after = preserve (whole-facts r m w) (leaf r c)
 

@@ -6,7 +6,7 @@ use native.Mathlib.Omega.{arith}
 use lib.ListN.{take}
 use Rattle.choice.specs.Pick.{pick}
 use Rattle.phases.specs.Phases.{remove, adopt, recoverRemove}
-use Rattle.record.specs.{Answers.Told, Answers.saidOf, Fields.top, Fields.spent, Fields.adopting, declared.Record.Record, declared.Opening.Opening}
+use Rattle.record.specs.{Answers.Told, Answers.saidOf, Fields.spent, Fields.adopting, declared.Record.Record, declared.Opening.Opening}
 use Rattle.answers.specs.{Classes.successful}
 use Rattle.tickets.specs.Live as Tickets
 use Rattle.step_opens.specs.Opening.{opening, openStep}
@@ -14,12 +14,13 @@ use Rattle.step_begins.specs.Beginning.{begun}
 use Rattle.step_rollbacks.specs.Rollbacks.{turned}
 use Rattle.step_structure.specs.Structure.{storing}
 use Rattle.calls.specs.{Calls.Report, Calls.Call, Calls.Report.structured, Calls.Report.updated, Calls.Report.rolledBack}
+use Rattle.demand_steps.specs.Typed.{Typed}
 use Rattle.demand_steps.specs.Watching.{Item, Watch, isFor, sees, watch, unwatched}
 use Rattle.demand_steps.specs.Watching.Item.{settle, apply, undo}
 use Rattle.demand_steps.proofs.{Facts.Whole, Facts.byCase, Testing.ranges, Wholeness.successor-test, Tickets.is-live, Tickets.onStructure, Tickets.onUpdate, Tickets.onRollback}
 use Rattle.demand_steps.proofs.{Moves.Along, Moves.goes-up, Moves.goes-down, Moves.inAlong, Moves.Along.start, Moves.Along.close, Moves.Along.back, Leaf.Leaf}
 use Rattle.demand_steps.proofs.Leaf.Leaf.{kept, began, structureAsked, updateEnded, updateAsked, rollbackEnded, turnedEmpty, turnedAsked, waited, went, updateTaken, undoTaken}
-use Rattle.demand_steps.proofs.Leaf.Leaf.{committed, recovered, restored}
+use Rattle.demand_steps.proofs.Leaf.Leaf.{committed, recovered, restored, refreshed}
 use Rattle.demand_chains.specs.Sending.{Sent, afterSent, heardSent}
 use Rattle.demand_chains.proofs.{Noting.Tied, Noting.note-ahead, Noting.note-behind, Sending.chain-keeps, Chain.Good, Chain.good-leaf, Theorems.good}
 use Rattle.clauses.specs.Chains.{forwardStages, recoveryStages, stageOf, stages, Steps, Listed}
@@ -60,7 +61,7 @@ none = record { c46 = refl; c48 = refl }
 steps : {r : Record} {c : Call} {x : Told} (w : Watch) → Whole r → Tied w r → Listed w r → Leaf r c x → Listed (sees w c (saidOf x)) (x .state)
 unfolding sees begun turned adopting opening pick
 steps w h d s (kept u f) = rw (u w) s
-steps w h d s (began i l f m) = none
+steps w h d s (began i l k f m) = none
 steps w h d s (structureAsked y) = s
 steps w h d s (updateEnded u e n) = s
 steps w h d s (updateAsked u e n) = s
@@ -93,11 +94,12 @@ steps {r} w h d s (undoTaken {t = t} {s = a} o l g) =
     rw (note-behind rolledBack t a w o (q .0) (ap (isFor rolledBack) (q .1)) (d .turning ∙ onRollback h l .behind))
     record { c46 = s .c46; c48 = same (w .undone) (w .item) (ap stageOf (q .1)) ∙ s .c48 }
 steps w h d s (committed i) = none
-steps w h d s (recovered i) = none
-steps w h d s restored = none
+steps w h d s (recovered e i) = none
+steps w h d s (restored e) = none
+steps w h d s (refreshed e k i) = s
 
 -- in every chain from an opening that is not refused
-pub steps-listed : (sized : Bool) (given : Opening) (l : ℕ) (m : given .revision ≤ top) (o : successful (openStep sized given l .class) ≡ true) (ss : List Sent) →
+pub steps-listed : (sized : Bool) (given : Opening) (l : ℕ) (m : Typed given) (o : successful (openStep sized given l .class) ≡ true) (ss : List Sent) →
     Listed (watch unwatched (heardSent (openStep sized given l .state) ss)) (afterSent (openStep sized given l .state) ss)
 unfolding opening unwatched watch heardSent afterSent
 steps-listed sized given l m o ss =

@@ -1,10 +1,10 @@
 -- `poll_structure`, clause by clause: of the asking and of the report. Assumes nothing.
-use Prim.Native.Nat.{ℕ, _≤_}
+use Prim.Native.Nat.{ℕ}
 use mathlib.Core.{Path._≡_, Path.refl, Path.ap, Bool.true, Bool.false, Logic._≢_}
 use borrow.Author.Tests.{not-false}
 use Rattle.choice.proofs.Tests.{test}
 use Rattle.phases.specs.{Phases.hasSuccessor, Phases.boundary, declared.Phase.Phase}
-use Rattle.record.specs.{Answers.Told, Fields.top, declared.Record.Record, declared.Outcome.Outcome}
+use Rattle.record.specs.{Answers.Told, declared.Record.Record, declared.Outcome.Outcome, Given.standing}
 use Rattle.answers.specs.{Classes.Class, Classes.refused, Classes.Class.refusal, Classes.StepAnswer.finished, declared.Refusal.the-variants.NotReady}
 use Rattle.tickets.specs.{Live.isLive}
 use Rattle.tickets.specs.Live as Tickets
@@ -12,6 +12,7 @@ use Rattle.wholeness.specs.Whole.{whole}
 use Rattle.step_asks.specs.Asks.{askStructureOwn}
 use Rattle.step_structure.specs.Structure.{structureDone, reportStructureBars, reportStructureOwn}
 use Rattle.calls.specs.{Calls.step, Calls.Work.structure, Calls.Report.structured, Calls.Call.ask, Calls.Call.report}
+use Rattle.demand_steps.specs.Typed.{Typed}
 use Rattle.demand_steps.proofs.{Own.own, Reading.whole-facts, Reading.apart-of, Testing.ranges}
 use Rattle.clauses.specs.{Keeping.gained, Keeping.SameBatch, Keeping.Framed, Polls.unfinished, Structure.StructureClauses, Structure.Advances}
 use Rattle.clauses.proofs.Splitting.{clash, differ, unended, by, past, outcomes, on-step}
@@ -21,7 +22,7 @@ use Rattle.clauses.proofs.Onward.{calm-staged, no-successor, at-boundar
 ready : {c : Class} → refused c ≡ false → c ≢ refusal NotReady
 ready n e = clash _ (ap refused e) n
 
-module _ (r : Record) (m : r .revision ≤ top) (w : whole r ≡ true) where
+module _ (r : Record) (m : Typed (standing r)) (w : whole r ≡ true) where
   abbrev Clauses : Told → Type 0
   Clauses = StructureClauses r
 

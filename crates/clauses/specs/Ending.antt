@@ -12,13 +12,14 @@ use Rattle.phases.specs.Phases.{none, ready, recovered}
 use Rattle.answers.specs.Classes.{refused}
 use Rattle.answers.specs.Classes.Class.{performed, refusal}
 use Rattle.record.specs.Answers.{Told}
-use Rattle.record.specs.Given.{standing}
+use Rattle.record.specs.Fields.{top}
 use Rattle.record.specs.declared.Record.{Record}
 use Rattle.answers.specs.declared.Refusal.the-variants.{Pending, Idle, NotReady}
 use Rattle.wholeness.specs.Whole.{whole}
 use Rattle.completeness.specs.Complete.{complete}
 use Rattle.step_opens.specs.Opening.{opening}
 use Rattle.step_ends.specs.Ending.{afterCommit}
+use Rattle.step_recoveries.specs.Recovering.{afterRecovery}
 use Rattle.step_stamps.specs.declared.SaveStamp.{SaveStamp}
 use Rattle.clauses.specs.Keeping.{gained, SameStaged, SameBatch}
 
@@ -72,7 +73,7 @@ pub record Recovered (r : Record) (n : ℕ) (t : Told) : Type 0 where
   -- the answer has the lengths of the old accepted, candidate and recovery payloads (also C211, C219, C220)
   pub c210 : t .values ≡ r .accepted ∷ r .candidate ∷ r .recovery ∷ []
   -- stronger: the whole record, as after a commit but for the revision (also C214)
-  pub c202-record : t .state ≡ opening (standing r) n
+  pub c202-record : t .state ≡ opening (afterRecovery r) n
 
 -- `recover` with a payload of length n, and `recover_with`, whose n is the retained one's
 pub record RecoverClauses (r : Record) (n : ℕ) (t : Told) : Type 0 where
@@ -95,23 +96,23 @@ pub record RefreshClauses (r : Record) (n : ℕ) (t : Told) : Type 0 where
   pub c225 : SameBatch r (t .state)
   pub c226 : t .state .revision ≡ r .revision
   pub c227 : SameStaged r (t .state)
-  -- ok exactly if not staged, and not 16
-  pub c228 : (t .class ≡ performed) ↔ ((r .staged ≡ false) × (n ≤ areaSize))
+  -- ok exactly if not staged, and neither 3 nor 16
+  pub c228 : (t .class ≡ performed) ↔ ((r .staged ≡ false) × (r .replacements ≢ top) × (n ≤ areaSize))
   -- ok implies that the accepted payload is the given one, by its length, and answers with the old one's
   pub c229 : t .class ≡ performed → t .state .accepted ≡ n
   pub c230 : t .class ≡ performed → t .values ≡ r .accepted ∷ []
   -- an error implies `new == old`
   pub c231 : refused (t .class) ≡ true → t .state ≡ r
 
--- some exactly if not staged; then the domain and the version
+-- some exactly if not staged; then the domain and the version, and by request 3 the count of replacements
 pub record StampClauses (r : Record) (domain : ℕ) (t : Told) : Type 0 where
   pub c115 : (t .class ≡ performed) ↔ (r .staged ≡ false)
-  pub c116 : t .class ≡ performed → t .values ≡ domain ∷ r .revision ∷ []
+  pub c116 : t .class ≡ performed → t .values ≡ domain ∷ r .revision ∷ r .replacements ∷ []
   pub error : refused (t .class) ≡ true → t .class ≡ refusal Pending
   pub kept : t .state ≡ r
 
--- true exactly if not staged, and both numbers agree
+-- upstream, true exactly if not staged, and both numbers agree: by request 3 replaced, and true exactly if all three do
 pub record CheckClauses (r : Record) (domain : ℕ) (s : SaveStamp) (t : Told) : Type 0 where
-  pub c119 : (t .values ≡ 1 ∷ []) ↔ ((r .staged ≡ false) × (domain ≡ s .domain) × (r .revision ≡ s .revision))
+  pub passes-exactly : (t .values ≡ 1 ∷ []) ↔ ((r .staged ≡ false) × (domain ≡ s .domain) × (r .revision ≡ s .revision) × (r .replacements ≡ s .replacements))
   pub answered : t .class ≡ performed
   pub kept : t .state ≡ r

@@ -20,7 +20,7 @@ use Rattle.record.specs.declared.Beginning.{Beginning}
 use Rattle.answers.specs.declared.Refusal.the-variants as why
 use Rattle.clauses.specs.Keeping.{SameStaged}
 use Rattle.clauses.specs.Structure.{Advances}
-use Rattle.clauses.specs.Staging.{CanBegin}
+use Rattle.clauses.specs.Staging.{Room, CanBegin}
 use Rattle.clauses.specs.Ending.{CanRecover}
 
 -- "`poll_structure`: success need not advance": here a Done report that is taken goes on by one phase and one count, ends its ticket,
@@ -58,10 +58,10 @@ pub record RollbackAsked (r : Record) (t : Told) : Type 0 where
 -- "`begin_structural`: nothing on what `Rejected` holds": here each answer has its case, for both begins
 pub data BeginAnswer (r : Record) (b : Beginning) : Class → Type 0 where
   pending : r .staged ≡ true → BeginAnswer r b (refusal why.Pending)
-  capacity : r .staged ≡ false → r .revision ≡ top → BeginAnswer r b (refusal why.Capacity)
-  longCandidate : r .staged ≡ false → r .revision ≢ top → areaSize < b .candidate → BeginAnswer r b (refusal why.LongCandidate)
-  longRecovery : r .staged ≡ false → r .revision ≢ top → b .candidate ≤ areaSize → areaSize < b .recovery → BeginAnswer r b (refusal why.LongRecovery)
-  tooMany : r .staged ≡ false → r .revision ≢ top → b .candidate ≤ areaSize → b .recovery ≤ areaSize → limit < b .actions → BeginAnswer r b (refusal why.TooMany)
+  capacity : r .staged ≡ false → eqb (r .revision) top or eqb (r .replacements) top ≡ true → BeginAnswer r b (refusal why.Capacity)
+  longCandidate : r .staged ≡ false → Room r → areaSize < b .candidate → BeginAnswer r b (refusal why.LongCandidate)
+  longRecovery : r .staged ≡ false → Room r → b .candidate ≤ areaSize → areaSize < b .recovery → BeginAnswer r b (refusal why.LongRecovery)
+  tooMany : r .staged ≡ false → Room r → b .candidate ≤ areaSize → b .recovery ≤ areaSize → limit < b .actions → BeginAnswer r b (refusal why.TooMany)
   begins : CanBegin r b → BeginAnswer r b performed
 
 -- and a refused one holds all that it was lent, while one that is performed starts the batch at zero: v is what a begin leaves

@@ -36,10 +36,14 @@ pub record OpenClauses (sizes : Bool) (given : Opening) (l : ℕ) (t : Told) : T
   -- stronger: the whole record, in which all else is 0, false or none
   pub c111-record : t .class ≡ performed → t .state ≡ opening given l
 
--- when a begin is ok: not staged, `version() < u64::MAX`, and none of 14, 15 and 9
+-- neither number of an opening that is raised is at its maximum
+abbrev pub Room : Record → Type 0
+Room r = (r .revision ≢ top) × (r .replacements ≢ top)
+
+-- when a begin is ok: not staged, `version() < u64::MAX`, by request 3 so the count of replacements, and none of 14, 15 and 9
 pub record CanBegin (r : Record) (b : Beginning) : Type 0 where
   pub idle : r .staged ≡ false
-  pub room : r .revision ≢ top
+  pub room : Room r
   pub candidate : b .candidate ≤ areaSize
   pub recovery : b .recovery ≤ areaSize
   pub few : b .actions ≤ limit

@@ -66,6 +66,8 @@ pub record WellFormed (r : Record) : Type 0 where
   pub c72-restoring : restoringFits (r .restoring) (r .phase .number) (r .entries) (r .applied) (r .attempted) ≡ true
   -- staged: `version() < u64::MAX`
   pub c73 : r .staged ≡ true → r .revision < top
+  -- request 3: "a staged record at that maximum is Damaged"
+  pub c73-replacements : r .staged ≡ true → r .replacements < top
   -- not staged: no entries, no structural phase, and no live ticket either
   pub c74 : r .staged ≡ false → r .entries ≡ 0
   pub c75 : r .staged ≡ false → r .phase .number ≡ none

@@ -87,8 +87,9 @@ fn open(n: Numbers) -> Command {
         opening: Opening {
             revision: n[0],
             serial: n[1],
+            replacements: n[2],
         },
-        payload: seeded(n[2], n[3]),
+        payload: seeded(n[3], n[4]),
     }
 }
 
@@ -145,10 +146,11 @@ fn ending(key: u8, length: usize) -> Ending {
     }
 }
 
-fn stamp(domain: u64, revision: u64) -> SaveStamp {
+fn stamp(domain: u64, revision: u64, replacements: u64) -> SaveStamp {
     SaveStamp {
         domain: domain,
         revision: revision,
+        replacements: replacements,
     }
 }
 
@@ -157,7 +159,7 @@ fn planning(key: u8, n: Numbers) -> Planning {
         b's' => Planning::Stamp(n[0]),
         _ => Planning::Check {
             domain: n[0],
-            stamp: stamp(n[1], n[2]),
+            stamp: stamp(n[1], n[2], n[3]),
         },
     }
 }
@@ -191,13 +193,13 @@ fn tailing(key: u8, n: Numbers) -> Tailing {
             file: tail.file(),
             size: n[2],
             domain: n[3],
-            stamp: stamp(n[4], n[5]),
+            stamp: stamp(n[4], n[5], n[6]),
         },
         _ => Tailing::Move {
             structs: key == b'N',
             tail: tail,
             domain: n[3],
-            stamp: stamp(n[4], n[5]),
+            stamp: stamp(n[4], n[5], n[6]),
         },
     }
 }

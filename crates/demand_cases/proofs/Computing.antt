@@ -83,9 +83,9 @@ heldSeen h ds = watch unwatched (heardHeld h ds)
 
 -- from an opening at revision 7 and serial 0, with a payload of 3 bytes, which is not refused
 abbrev pub start : Record
-start = openStep true (at 7 0) 3 .state
+start = openStep true (at 7 0 2) 3 .state
 
-pub opens : successful (openStep true (at 7 0) 3 .class) ≡ true
+pub opens : successful (openStep true (at 7 0 2) 3 .class) ≡ true
 unfolding called
 opens = refl
 
@@ -98,6 +98,6 @@ unfolding known unwatched
 seen ss = known unwatched start ss
 
 -- demand 3, of every chain from there
-pub demand : (ss : List Sent) → DemandThree 7 (now ss) (seen ss)
+pub demand : (ss : List Sent) → DemandThree (at 7 0 2) (now ss) (seen ss)
 unfolding now seen
-demand ss = demands true (at 7 0) 3 (omega arith) opens ss
+demand ss = demands true (at 7 0 2) 3 (omega arith) opens ss

@@ -1,6 +1,6 @@
 -- Chains of calls from an opening to which the theorems over chains are applied, so that no hypothesis is met by nothing: with a wait,
 -- a failure and refusals; ready for commit; being undone, and undone; and a second transaction. Assumes nothing.
-use Prim.Native.Nat.{ℕ, _+_, _≤_}
+use Prim.Native.Nat.{ℕ, _+_}
 use mathlib.Core.Path.{_≡_, refl, sym}
 use mathlib.Core.Bool.{Bool, true, false}
 use mathlib.Core.List.{List, [], _∷_, _++_, map}
@@ -9,7 +9,7 @@ use native.Mathlib.Omega.{arith}
 use Rattle.choice.proofs.Tests.{never, eqb-ne}
 use Rattle.areas.specs.Areas.{areaSize}
 use Rattle.record.specs.Fields.{top}
-use Rattle.record.specs.Given.{at, beginning}
+use Rattle.record.specs.Given.{at, beginning, standing}
 use Rattle.record.specs.declared.Record.{Record}
 use Rattle.record.specs.declared.Outcome.the-variants.{Waiting, Failed, Done}
 use Rattle.step_opens.specs.Opening.{openStep}
@@ -18,6 +18,7 @@ use Rattle.calls.specs.Calls.Work.{structure, update, rollback}
 use Rattle.calls.specs.Calls.Report.{structured, updated, rolledBack}
 use Rattle.calls.specs.Calls.Call.{begin, ask, report, edit, commit, recover, recoverRetained}
 use Rattle.demand_chains.specs.Sending.{Sent, plainly}
+use Rattle.demand_steps.specs.Typed.{Typed}
 use Rattle.demand_steps.specs.Watching.Item.{settle, apply, undo}
 use Rattle.demand_chains.specs.Plans.{due}
 use Rattle.demand_chains.specs.Promises.{Asking}
@@ -26,10 +27,10 @@ use Rattle.demand_chains.proofs.Theorems.{staged-known}
 use Rattle.demand_cases.proofs.Computing.{called, performs, grants, reached, numbers, start, opens, now, seen, demand}
 
 -- only one asking is due: the one that is granted
-due-grants : (ss : List Sent) (c : Call) → now ss .revision ≤ top → now ss .serial ≢ top → due (now ss) c ≡ true → Asking (now ss)
+due-grants : (ss : List Sent) (c : Call) → Typed (standing (now ss)) → now ss .serial ≢ top → due (now ss) c ≡ true → Asking (now ss)
     → grants (now ss) c ≡ true
 unfolding now
-due-grants ss c m s d a = rw (one-due (now ss) c (a .call) m (staged-known true (at 7 0) 3 (omega arith) opens ss .1) d (a .is-due)) (a .is-granted s)
+due-grants ss c m s d a = rw (one-due (now ss) c (a .call) m (staged-known true (at 7 0 2) 3 (omega arith) opens ss .1) d (a .is-due)) (a .is-granted s)
 
 -- the structure work of one phase
 abbrev pub settles : ℕ → List Sent
@@ -130,7 +131,7 @@ again-met =
 
 -- at the maximum of the serial the due asking is answered Worn: the exception is needed
 abbrev worn : Record
-worn = reached (openStep true (at 7 top) 3 .state) (plainly (begin true (beginning 2 2 0)) ∷ [])
+worn = reached (openStep true (at 7 top 0) 3 .state) (plainly (begin true (beginning 2 2 0)) ∷ [])
 
 pub worn-met : (due worn (ask structure) ≡ true) × (called worn (ask structure) .number ≡ 11)
 unfolding reached due

@@ -15,7 +15,7 @@ use Rattle.demand_cases.proofs.Computing.{called}
 
 -- a staged record at serial 1: phase, forward, back; entries, applied, attempted, restoring; the live ticket
 unfoldable pub staged : ℕ → ℕ → ℕ → ℕ → ℕ → ℕ → Bool → Live → Record
-staged p f b n a k v l = withTicket 1 l (withPlace p f b (withBatch n a k v (withStaged true (opening (at 7 0) 3))))
+staged p f b n a k v l = withTicket 1 l (withPlace p f b (withBatch n a k v (withStaged true (opening (at 7 0 0) 3))))
 
 -- one in phase 5
 unfoldable pub updating : Record
@@ -46,7 +46,7 @@ phases =
 
 -- idle, and each kind of live ticket
 pub kinds : List Record
-kinds = opening (at 7 1) 3 ∷ staged 1 0 0 3 0 0 false (Structure 1) ∷ staged 5 4 0 3 0 1 false (Update 1) ∷ staged 0 0 0 2 1 2 true (Rollback 1) ∷ []
+kinds = opening (at 7 1 0) 3 ∷ staged 1 0 0 3 0 0 false (Structure 1) ∷ staged 5 4 0 3 0 1 false (Update 1) ∷ staged 0 0 0 2 1 2 true (Rollback 1) ∷ []
 
 pub phases-whole : allWhole phases ≡ true
 unfolding phases updating staged called

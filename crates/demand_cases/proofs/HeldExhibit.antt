@@ -42,7 +42,7 @@ abbrev payload : List ℕ
 payload = 1 ∷ 2 ∷ 3 ∷ []
 
 abbrev opened : Leaves
-opened = leavesOf unopened (Lending.openAt (at 7 0) area payload)
+opened = leavesOf unopened (Lending.openAt (at 7 0 2) area payload)
 
 abbrev pub held : Held
 held = holding (opened .told .state) (getD (opened .lent) 0 []) area area (replicate (areaSize - 1) 0) table (blank (replicate 8 0))
@@ -68,8 +68,8 @@ pub held-met : (heldSeen held working .done ≡ apply 0 ∷ []) × (performs (he
     × (heldAfter held ended .state .revision ≡ 8)
 unfolding heldAfter heldSeen
 held-met =
-    let f = held-demands held working (at 7 0) area payload (omega arith) refl refl .commit-exactly refl refl in
-    (f .order, f .exact, held-demands held ended (at 7 0) area payload (omega arith) refl refl .revision-law)
+    let f = held-demands held working (at 7 0 2) area payload (omega arith) refl refl .commit-exactly refl refl in
+    (f .order, f .exact, held-demands held ended (at 7 0 2) area payload (omega arith) refl refl .revision-law)
 
 -- so that a stamp that was taken at the opening fails
 pub held-stamp-met : saidOf (called (heldAfter held ended .state) (Call.check 3 taken)) ≡ saysChecked Fails
@@ -78,7 +78,7 @@ held-stamp-met = held-stamps held ended 3 taken 3 (omega arith) refl
 
 -- "Room 3, opened at 0 and 0", a log with something in it; "update-only begin without actions, commit"
 abbrev pub openedLog : Leaves
-openedLog = leavesThrough unopened (replicate 16 7) (Lending.openAt (at 0 0) area [])
+openedLog = leavesThrough unopened (replicate 16 7) (Lending.openAt (at 0 0 0) area [])
 
 abbrev pub heldLog : Held
 heldLog = holding (openedLog .told .state) (getD (openedLog .lent) 1 []) area area area table (getD (openedLog .lent) 0 [])
@@ -90,6 +90,6 @@ pub logbook : heldAfter heldLog calls .log ≡ 2 ∷ 4 ∷ 3 ∷ 0 ∷ 1 ∷ 0 �
 unfolding heldAfter
 logbook = refl
 
-pub logbook-met : DemandThree 0 (heldAfter heldLog calls .state) (heldSeen heldLog calls)
+pub logbook-met : DemandThree (at 0 0 0) (heldAfter heldLog calls .state) (heldSeen heldLog calls)
 unfolding heldAfter heldSeen
-logbook-met = held-demands-logged heldLog calls (at 0 0) area [] (omega arith) (replicate 16 7) refl refl
+logbook-met = held-demands-logged heldLog calls (at 0 0 0) area [] (omega arith) (replicate 16 7) refl refl

@@ -1,12 +1,13 @@
 -- Chains to which the theorems on progress, on a granted rollback, on an early recovery and on stamps are applied: no hypothesis is met
--- by nothing. A stamp that is taken at the opening passes after a transaction that was recovered, and fails while one is staged, after a
--- commit and for another domain. Assumes nothing.
-use Prim.Native.Nat.{ℕ}
+-- by nothing. A stamp that is taken at the opening passes after calls that were refused, and fails while a transaction is staged, after a
+-- commit, a recovery and a refresh, and for another domain. Assumes nothing.
+use Prim.Native.Nat.{ℕ, _+_}
 use mathlib.Core.Path.{_≡_, refl}
 use mathlib.Core.Bool.{true, false}
 use mathlib.Core.List.{List, [], _∷_, _++_, map}
 use native.Mathlib.Omega.{arith}
 use Rattle.choice.specs.Pick.{pick}
+use Rattle.areas.specs.Areas.{areaSize}
 use Rattle.answers.specs.Classes.Class.{performed}
 use Rattle.answers.specs.Answers.{Said, said}
 use Rattle.record.specs.Answers.{saidOf}
@@ -19,7 +20,7 @@ use Rattle.step_stamps.specs.declared.Stamping.the-variants.{Taken}
 use Rattle.step_stamps.specs.declared.Checked.the-variants.{Passes, Fails}
 use Rattle.calls.specs.Calls.Work.{structure, update, rollback}
 use Rattle.calls.specs.Calls.Report.{structured, rolledBack}
-use Rattle.calls.specs.Calls.Call.{begin, ask, report, commit, recoverRetained, stamp, check}
+use Rattle.calls.specs.Calls.Call.{begin, ask, report, commit, recover, recoverRetained, refresh, stamp, check}
 use Rattle.demand_chains.specs.Sending.{Sent, plainly}
 use Rattle.demand_chains.specs.Plans.{due}
 use Rattle.demand_chains.specs.Promises.{stampPasses}
@@ -73,7 +74,7 @@ pub opens-met : called (now bare) commit .state ≡ opening (afterCommit (now ba
 unfolding now
 opens-met = commit-opens (now bare) refl
 
--- a stamp of domain 3 at revision 7
+-- a stamp of domain 3 at revision 7 and 2 replacements
 pub stamp-met : saidOf (called start (stamp 3)) ≡ saysStamping (Taken taken)
 unfolding called
 stamp-met = refl
@@ -82,17 +83,32 @@ stamp-met = refl
 abbrev checked : List Sent → ℕ → Said
 checked ss domain = saidOf (called (now ss) (check domain taken))
 
-law : (ss : List Sent) (domain : ℕ) → checked ss domain ≡ said performed (pick (stampPasses (seen ss .running) domain 3 (seen ss .commits)) 1 0 ∷ [])
+law : (ss : List Sent) (domain : ℕ) → checked ss domain ≡ said performed (pick (stampPasses (seen ss .running) domain 3 (seen ss .replacements)) 1 0 ∷ [])
 unfolding now seen
 law ss domain = stamp-law start 3 taken ss domain (omega arith) stamp-met
 
--- yes: with nothing since, and after a transaction that was recovered
-pub passes-met : (checked [] 3 ≡ saysChecked Passes) × (checked (undone ++ plainly recoverRetained ∷ []) 3 ≡ saysChecked Passes)
+-- refused, each of the calls that replace settings
+abbrev refusals : List Sent
+refusals = map plainly (commit ∷ recover 4 ∷ recoverRetained ∷ refresh (areaSize + 1) ∷ [])
+
+-- yes: with nothing since, and after calls that were refused
+pub passes-met : (checked [] 3 ≡ saysChecked Passes) × (checked refusals 3 ≡ saysChecked Passes)
 unfolding now seen stampPasses
-passes-met = (law [] 3, law (undone ++ plainly recoverRetained ∷ []) 3)
+passes-met = (law [] 3, law refusals 3)
 
 -- no: while one is staged, after its commit, after a commit with another staged, and for another domain
 pub fails-met : (checked ahead 3 ≡ saysChecked Fails) × (checked (ahead ++ plainly commit ∷ []) 3 ≡ saysChecked Fails)
     × (checked again 3 ≡ saysChecked Fails) × (checked [] 4 ≡ saysChecked Fails)
 unfolding now seen stampPasses
 fails-met = (law ahead 3, law (ahead ++ plainly commit ∷ []) 3, law again 3, law [] 4)
+
+-- nor, at the same revision, after either recovery and after a refresh; the count is one more after each
+pub replaced-met : (checked (undone ++ plainly recoverRetained ∷ []) 3 ≡ saysChecked Fails) × (checked (bare ++ plainly (recover 4) ∷ []) 3 ≡ saysChecked Fails)
+    × (checked (plainly (refresh 4) ∷ []) 3 ≡ saysChecked Fails) × (now (plainly (refresh 4) ∷ []) .replacements ≡ 3)
+unfolding now seen stampPasses
+replaced-met = (
+  law (undone ++ plainly recoverRetained ∷ []) 3,
+  law (bare ++ plainly (recover 4) ∷ []) 3,
+  law (plainly (refresh 4) ∷ []) 3,
+  demand (plainly (refresh 4) ∷ []) .replacements-law,
+)

@@ -72,9 +72,9 @@ full-met = log-full-changes-nothing (full .state) (full .log) commit refl
 
 -- and from an opening through the recorder, whatever stood in the log
 abbrev opened : Leaves
-opened = leavesThrough unopened (replicate 24 7) (Lending.openAt (at 7 0) (replicate areaSize 0) (1 ∷ 2 ∷ 3 ∷ []))
+opened = leavesThrough unopened (replicate 24 7) (Lending.openAt (at 7 0 2) (replicate areaSize 0) (1 ∷ 2 ∷ 3 ∷ []))
 
 pub opening-met : Same (opened .told .state) (logOf opened) chain
     × (entries (logged (opened .told .state) (logOf opened) chain .log) ≡ entry 1 0 0 7 ∷ entry 3 4 0 7 ∷ entry 5 20 1 7 ∷ entry 6 24 1 7 ∷ entry 9 0 1 8 ∷ [])
 unfolding throughLog
-opening-met = from-opening (at 7 0) (replicate 24 7) (replicate areaSize 0) (1 ∷ 2 ∷ 3 ∷ []) refl chain (omega arith)
+opening-met = from-opening (at 7 0 2) (replicate 24 7) (replicate areaSize 0) (1 ∷ 2 ∷ 3 ∷ []) refl chain (omega arith)

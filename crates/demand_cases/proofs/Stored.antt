@@ -7,6 +7,7 @@ use mathlib.Core.List.{List, [], _∷_, _++_, map}
 use native.Mathlib.Omega.{arith}
 use Rattle.choice.proofs.Tests.{never, eqb-ne}
 use Rattle.areas.specs.Areas.{areaSize}
+use Rattle.record.specs.Given.{standing}
 use Rattle.record.specs.declared.Record.{Record}
 use Rattle.record.specs.declared.Outcome.the-variants.{Waiting, Done}
 use Rattle.wholeness.specs.Whole.{whole}
@@ -40,7 +41,7 @@ unfolding now
 updating-whole = refl
 
 -- demand 3, of every chain from there
-demand : (ss : List Sent) → DemandThree 7 (now ss) (seen ss)
+demand : (ss : List Sent) → DemandThree (standing updating) (now ss) (seen ss)
 unfolding now seen
 demand ss = demands-from updating (omega arith) updating-whole ss
 

@@ -1,14 +1,14 @@
 -- Every chain from a whole record keeps it whole, and what the watcher knows tied to it. Assumes nothing.
-use Prim.Native.Nat.{_≤_}
 use mathlib.Core.Path.{_≡_}
 use mathlib.Core.Bool.{true}
 use mathlib.Core.List.{List}
 use Rattle.record.specs.Answers.{Told, saidOf}
-use Rattle.record.specs.Fields.{top}
+use Rattle.record.specs.Given.{standing}
 use Rattle.record.specs.declared.Record.{Record}
 use Rattle.wholeness.specs.Whole.{whole}
 use Rattle.calls.specs.Calls.{Call, step}
 use Rattle.demand_chains.specs.Sending.{Sent, afterSent, heardSent}
+use Rattle.demand_steps.specs.Typed.{Typed}
 use Rattle.demand_steps.specs.Watching.{Watch, sees, watch, unwatched}
 use Rattle.demand_steps.proofs.Own.{own, whole-step}
 use Rattle.demand_steps.proofs.Leaf.{Leaf}
@@ -26,17 +26,17 @@ use Rattle.demand_chains.proofs.Tying.{tie}
 pub undamaged : {r : Record} (c : Call) → Whole r → step r c ≡ own r c
 undamaged {r} c w = whole-step r c (whole-test w)
 
--- demand 2: wholeness is kept by every call; the revision is a u64
-module _ (r : Record) (m : r .revision ≤ top) (h : whole r ≡ true) where
-  kept-by : {c : Call} {x : Told} → Leaf r c x → (whole (x .state) ≡ true) × (x .state .revision ≤ top)
+-- demand 2: wholeness is kept by every call, and that revision and count are u64s
+module _ (r : Record) (m : Typed (standing r)) (h : whole r ≡ true) where
+  kept-by : {c : Call} {x : Told} → Leaf r c x → (whole (x .state) ≡ true) × Typed (standing (x .state))
   kept-by l = let y = preserve (whole-facts r m h) l in (whole-test y, range (y .calm))
 
-pub whole-kept : (r : Record) (c : Call) → r .revision ≤ top → whole r ≡ true → (whole (step r c .state) ≡ true) × (step r c .state .revision ≤ top)
+pub whole-kept : (r : Record) (c : Call) → Typed (standing r) → whole r ≡ true → (whole (step r c .state) ≡ true) × Typed (standing (step r c .state))
 whole-kept r c m h = kept-by r m h (leaf r c)
 
 -- and in every chain
-pub whole-chain : (r : Record) (ss : List Sent) → r .revision ≤ top → whole r ≡ true → whole (afterSent r ss) ≡ true
-whole-chain r ss m h = chain-keeps (λ w q. (whole q ≡ true) × (q .revision ≤ top)) (λ w q c t l x. kept-by q (x .1) (x .0) l) unwatched r ss (h, m) .0
+pub whole-chain : (r : Record) (ss : List Sent) → Typed (standing r) → whole r ≡ true → whole (afterSent r ss) ≡ true
+whole-chain r ss m h = chain-keeps (λ w q. (whole q ≡ true) × Typed (standing q)) (λ w q c t l x. kept-by q (x .1) (x .0) l) unwatched r ss (h, m) .0
 
 pub record Good (w : Watch) (r : Record) : Type 0 where
   pub is-whole : Whole r

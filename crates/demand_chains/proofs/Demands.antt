@@ -1,9 +1,9 @@
 -- Demand 3 whole, of a whole record to which what the watcher knows is tied. Assumes nothing.
-use Prim.Native.Nat.{ℕ}
 use mathlib.Core.Path.{_≡_}
 use Rattle.record.specs.declared.Record.{Record}
+use Rattle.record.specs.declared.Opening.{Opening}
 use Rattle.demand_steps.specs.Watching.{Watch}
-use Rattle.demand_chains.specs.Promises.{revisionAfter}
+use Rattle.demand_chains.specs.Promises.{revisionAfter, replacementsAfter}
 use Rattle.demand_chains.specs.DemandThree.{DemandThree}
 use Rattle.demand_chains.proofs.Chain.{Good}
 use Rattle.demand_chains.proofs.Exactly.{forward-law, backward-law}
@@ -13,9 +13,11 @@ use Rattle.demand_chains.proofs.Finishing.{finish-law}
 use Rattle.demand_chains.proofs.Turning.{turned-law}
 use Rattle.demand_chains.proofs.Recovering.{back-law, early-law}
 
-pub demand-three : (v : ℕ) (w : Watch) (r : Record) → Good w r → r .revision ≡ revisionAfter v (w .commits) → DemandThree v r w
-demand-three v w r g e = record {
+pub demand-three : (given : Opening) (w : Watch) (r : Record) → Good w r → r .revision ≡ revisionAfter (given .revision) (w .commits) →
+    r .replacements ≡ replacementsAfter (given .replacements) (w .replacements) → DemandThree given r w
+demand-three given w r g e n = record {
   revision-law = e;
+  replacements-law = n;
   commit-exactly = forward-law w r g;
   recovery-exactly = backward-law w r g;
   never-locked = asking-law w r g;

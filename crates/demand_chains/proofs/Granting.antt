@@ -1,5 +1,4 @@
 -- The due asking is granted, unless the serial is at its maximum. Assumes nothing.
-use Prim.Native.Nat.{_≤_}
 use mathlib.Core.Path.{_≡_, refl, sym, _∙_}
 use mathlib.Core.Bool.{Bool, true, false}
 use mathlib.Core.Logic.{_≢_}
@@ -12,10 +11,12 @@ use Rattle.answers.specs.Classes.{granted}
 use Rattle.record.specs.Answers.{Told}
 use Rattle.record.specs.Fields.{top}
 use Rattle.record.specs.declared.Record.{Record}
+use Rattle.record.specs.Given.{standing}
 use Rattle.wholeness.specs.Whole.{whole}
 use Rattle.step_asks.specs.Asks.{askStructureOwn, askUpdateOwn}
 use Rattle.step_rollbacks.specs.Rollbacks.{askRollbackOwn}
 use Rattle.calls.specs.Calls.{Call, step}
+use Rattle.demand_steps.specs.Typed.{Typed}
 use Rattle.demand_chains.specs.Plans.{due}
 use Rattle.demand_steps.proofs.Own.{own}
 use Rattle.demand_steps.proofs.Leaf.{Apart, Updates}
@@ -61,5 +62,5 @@ pub granted-whole : {r : Record} (c : Call) → Whole r → due r c ≡ true →
 granted-whole {r} c w d s = rw (undamaged c w) (grants-due r s (due-is r w c d))
 
 -- "the due asking of document 01 is granted, unless the serial is at its maximum"
-pub due-granted : (r : Record) (c : Call) → r .revision ≤ top → whole r ≡ true → due r c ≡ true → r .serial ≢ top → granted (step r c .class) ≡ true
+pub due-granted : (r : Record) (c : Call) → Typed (standing r) → whole r ≡ true → due r c ≡ true → r .serial ≢ top → granted (step r c .class) ≡ true
 due-granted r c m h d s = granted-whole c (whole-facts r m h) d s

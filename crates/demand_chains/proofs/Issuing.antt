@@ -14,11 +14,11 @@ use Rattle.answers.specs.Classes.{ticketed, taken}
 use Rattle.answers.specs.Answers.{Said, says}
 use Rattle.record.specs.Answers.{Told, saidOf}
 use Rattle.tickets.specs.Live.{isLive}
-use Rattle.record.specs.Fields.{top}
 use Rattle.record.specs.declared.Record.{Record}
 use Rattle.tickets.specs.declared.Live.{Live}
 use Rattle.tickets.specs.declared.Live.the-variants.{Structure, Update, Rollback}
 use Rattle.record.specs.declared.Outcome.the-variants.{Done}
+use Rattle.record.specs.Given.{standing}
 use Rattle.answers.specs.declared.Answer.the-variants as A
 use Rattle.wholeness.specs.Whole.{whole}
 use Rattle.gates.proofs.Passing.{payloads-pass}
@@ -32,6 +32,7 @@ use Rattle.calls.specs.Calls.{Call, step}
 use Rattle.calls.specs.Calls.Work.{structure, update, rollback}
 use Rattle.calls.specs.Calls.Report.{structured, updated, rolledBack}
 use Rattle.calls.specs.Calls.Call.{ask, report}
+use Rattle.demand_steps.specs.Typed.{Typed}
 use Rattle.demand_chains.specs.Progress.{DoneReport}
 use Rattle.demand_chains.specs.Progress.DoneReport.{forStructure, forUpdate, forRollback}
 use Rattle.demand_steps.proofs.Own.{own, whole-step, damaged-step}
@@ -94,7 +95,7 @@ record Issued (live : Live) (r : Record) : Type 0 where
   is-whole : whole r ≡ true
   is-live : r .live ≡ live
 
-issued : (live : ℕ → Live) (r : Record) (c : Call) (t i : ℕ) → r .revision ≤ top → Issues live r (own r c) → saidOf (step r c) ≡ says (A.Ticket t i) →
+issued : (live : ℕ → Live) (r : Record) (c : Call) (t i : ℕ) → Typed (standing r) → Issues live r (own r c) → saidOf (step r c) ≡ says (A.Ticket t i) →
     Issued (live t) (step r c .state)
 issued live r c t i m f h =
     let n : ticketed (step r c .class) ≡ true = ap (λ (s : Said). ticketed (s .class)) h in
@@ -105,7 +106,7 @@ issued live r c t i m f h =
     (λ w. never (sym (rw (damaged-step r c w) at n)))
 
 -- an asking answered with ticket t, then its report of t with Done and payloads of at most 4,096 bytes, is taken
-pub done-taken : (r : Record) (c d : Call) (t i : ℕ) → r .revision ≤ top → saidOf (step r c) ≡ says (A.Ticket t i) → DoneReport t c d →
+pub done-taken : (r : Record) (c d : Call) (t i : ℕ) → Typed (standing r) → saidOf (step r c) ≡ says (A.Ticket t i) → DoneReport t c d →
     taken (step (step r c .state) d .class) ≡ true
 unfolding own
 done-taken r c d t i m h (forStructure {candidate = x} {recovery = y} p q) =

@@ -1,15 +1,16 @@
 -- On a whole record at most one asking is due. Assumes nothing.
-use Prim.Native.Nat.{ℕ, _≤_, _<_}
+use Prim.Native.Nat.{ℕ, _<_}
 use mathlib.Core.Path.{_≡_, refl, sym}
 use mathlib.Core.Bool.{true, false}
 use borrow.Author.Tests.{eqb-true, ltb-true, not-true}
 use Rattle.choice.proofs.Tests.{never, both, either}
-use Rattle.record.specs.Fields.{top}
 use Rattle.record.specs.declared.Record.{Record}
+use Rattle.record.specs.Given.{standing}
 use Rattle.wholeness.specs.Whole.{whole}
 use Rattle.calls.specs.Calls.{Call}
 use Rattle.calls.specs.Calls.Work.{structure, update, rollback}
 use Rattle.calls.specs.Calls.Call.{begin, ask, report, edit, commit, recover, recoverRetained, refresh, stamp, check}
+use Rattle.demand_steps.specs.Typed.{Typed}
 use Rattle.demand_chains.specs.Plans.{due}
 use Rattle.demand_steps.proofs.Leaf.{Apart, Updates}
 use Rattle.demand_steps.proofs.Facts.{Whole, tests}
@@ -65,5 +66,5 @@ one r w (undo d h) (apply u e) = absurd (omega tests)
 one r w (undo e h) (undo d g) = refl
 
 -- "the due asking": two that are due are the same
-pub one-due : (r : Record) (c e : Call) → r .revision ≤ top → whole r ≡ true → due r c ≡ true → due r e ≡ true → c ≡ e
+pub one-due : (r : Record) (c e : Call) → Typed (standing r) → whole r ≡ true → due r c ≡ true → due r e ≡ true → c ≡ e
 one-due r c e m h p q = let w = whole-facts r m h in one r w (due-is r w c p) (due-is r w e q)

@@ -1,5 +1,5 @@
--- Demand 2: a stamp that was taken passes exactly if nothing is staged, the domain is equal and no commit has succeeded since. Assumes
--- nothing.
+-- Demand 2, by request 3: a stamp that was taken passes exactly if nothing is staged, the domain is equal and no commit, recovery or
+-- refresh has succeeded since. Assumes nothing.
 use Prim.Native.Nat.{ℕ, _+_, _≤_}
 use mathlib.Core.Path.{_≡_, refl, sym, _∙_, ap}
 use mathlib.Core.Bool.{Bool, true, false, not}
@@ -10,12 +10,12 @@ use lib.ListN.{getD}
 use borrow.Author.Tests.{eq-eqb, ne-eqb}
 use Rattle.choice.specs.Pick.{pick, _and_}
 use Rattle.choice.proofs.Picks.{picked}
-use Rattle.choice.proofs.Tests.{never, test, eqb-ne, tests}
+use Rattle.choice.proofs.Tests.{never, test, eqb-ne, tests, no-right, and-true}
 use Rattle.answers.specs.Classes.{refused}
 use Rattle.answers.specs.Classes.Class.{performed}
 use Rattle.answers.specs.Answers.{Said, said}
 use Rattle.record.specs.Answers.{Told, told, saidOf, refuse}
-use Rattle.record.specs.Fields.{top}
+use Rattle.record.specs.Given.{standing}
 use Rattle.record.specs.declared.Record.{Record}
 use Rattle.answers.specs.declared.Refusal.{Refusal}
 use Rattle.wholeness.specs.Whole.{whole}
@@ -26,13 +26,14 @@ use Rattle.step_stamps.specs.declared.Checked.the-variants.{Passes, Fails}
 use Rattle.calls.specs.Calls.{step}
 use Rattle.calls.specs.Calls.Call.{stamp, check}
 use Rattle.demand_chains.specs.Sending.{Sent, afterSent, heardSent}
+use Rattle.demand_steps.specs.Typed.{Typed}
 use Rattle.demand_steps.specs.Watching.{Watch, watch, unwatched}
 use Rattle.demand_chains.specs.Promises.{stampPasses}
 use Rattle.demand_steps.proofs.Own.{own, whole-step, answers}
 use Rattle.demand_chains.proofs.Chain.{whole-chain}
-use Rattle.demand_chains.proofs.Revision.{chain-runs, chain-gains}
+use Rattle.demand_chains.proofs.Revision.{chain-runs, chain-gains, chain-counts, chain-covers}
 
--- a stamp that was taken is of a whole record that is not staged, and carries its revision
+-- a stamp that was taken is of a whole record that is not staged, and carries its revision and its count of replacements
 record Stamped (r : Record) (d : ℕ) (s : SaveStamp) : Type 0 where
   is-whole : whole r ≡ true
   idle : r .staged ≡ false
@@ -40,7 +41,7 @@ record Stamped (r : Record) (d : ℕ) (s : SaveStamp) : Type 0 where
 
 -- the stamp again, from what was said
 heardStamp : Said → SaveStamp
-heardStamp a = record { domain = getD (a .values) 0 0; revision = getD (a .values) 1 0 }
+heardStamp a = record { domain = getD (a .values) 0 0; revision = getD (a .values) 1 0; replacements = getD (a .values) 2 0 }
 
 abbrev Stamping : Record → ℕ → SaveStamp → Told → Type 0
 Stamping r d s x = saidOf x ≡ saysStamping (Taken s) → Stamped r d s
@@ -63,19 +64,23 @@ checked : (r : Record) (e : ℕ) (s : SaveStamp) → whole r ≡ true → saidOf
 unfolding own
 checked r e s w = ap saidOf (whole-step r (check e s) w) ∙ inside (passes r e s) r
 
--- two numbers that differ by a count are equal exactly if it is 0
-same-by : (x y n : ℕ) → x ≡ y + n → eqb x y ≡ eqb n 0
-same-by x y n h = test (eqb n 0) (λ (e : eqb n 0 ≡ true). eq-eqb x y (omega tests) ∙ sym e) (λ (e : eqb n 0 ≡ false). ne-eqb x y (λ (i : x ≡ y). eqb-ne n 0 e (omega tests)) ∙ sym e)
+-- two numbers that differ by a count are equal exactly if it is 0; and so are two more that differ by no more than it
+same-by : (b : Bool) (x y u v c n : ℕ) → x ≡ y + c → u ≡ v + n → c ≤ n → b and eqb x y and eqb u v ≡ b and eqb n 0
+same-by b x y u v c n h k m = test (eqb n 0)
+    (λ (e : eqb n 0 ≡ true). rw (eq-eqb x y (omega tests), eq-eqb u v (omega tests), e) (sym (and-true (b and true))))
+    (λ (e : eqb n 0 ≡ false). no-right (b and eqb x y) (ne-eqb u v (λ (i : u ≡ v). eqb-ne n 0 e (omega tests))) ∙ sym (no-right b e))
 
-pub stamp-law : (r : Record) (d : ℕ) (s : SaveStamp) (ss : List Sent) (e : ℕ) → r .revision ≤ top → saidOf (step r (stamp d)) ≡ saysStamping (Taken s) →
+pub stamp-law : (r : Record) (d : ℕ) (s : SaveStamp) (ss : List Sent) (e : ℕ) → Typed (standing r) → saidOf (step r (stamp d)) ≡ saysStamping (Taken s) →
     let w = watch unwatched (heardSent r ss) in
-    saidOf (step (afterSent r ss) (check e s)) ≡ said performed (pick (stampPasses (w .running) e d (w .commits)) 1 0 ∷ [])
+    saidOf (step (afterSent r ss) (check e s)) ≡ said performed (pick (stampPasses (w .running) e d (w .replacements)) 1 0 ∷ [])
 unfolding passes unwatched stampPasses
 stamp-law r d s ss e m h =
     let t = stamped r d s h in
     let g = chain-gains unwatched r ss in
+    let k = chain-counts unwatched r ss in
+    let v = chain-covers unwatched r ss in
     let w : Watch = watch unwatched (heardSent r ss) in
     let q : Record = afterSent r ss in
     rw (t .is) (checked q e (stampOf d r) (whole-chain r ss m (t .is-whole)))
-    ∙ ap (λ (b : Bool). said performed (pick (not b and eqb e d and eqb (q .revision) (r .revision)) 1 0 ∷ [])) (sym (chain-runs unwatched r ss (sym (t .idle))))
-    ∙ ap (λ (b : Bool). said performed (pick (not (w .running) and eqb e d and b) 1 0 ∷ [])) (same-by (q .revision) (r .revision) (w .commits) (omega arith))
+    ∙ ap (λ (b : Bool). said performed (pick (not b and eqb e d and eqb (q .revision) (r .revision) and eqb (q .replacements) (r .replacements)) 1 0 ∷ [])) (sym (chain-runs unwatched r ss (sym (t .idle))))
+    ∙ ap (λ (b : Bool). said performed (pick b 1 0 ∷ [])) (same-by _ (q .revision) _ (q .replacements) _ (w .commits) (w .replacements) (omega arith) (omega arith) (omega arith))

@@ -1,64 +1,68 @@
 -- Demand 3: what holds of every chain of calls, from an opening that is not refused. Assumes nothing.
 use Prim.Native.Nat.{ℕ, _+_, _≤_}
-use mathlib.Core.Path.{_≡_, refl, sym}
+use mathlib.Core.Path.{_≡_, refl, sym, ap}
 use mathlib.Core.Bool.{Bool, true, false}
-use mathlib.Core.List.{List}
+use mathlib.Core.List.{List, [], _∷_}
 use mathlib.Core.Logic.{_≢_}
 use native.Mathlib.Omega.{arith}
 use lib.ListN.{length}
+use Rattle.choice.specs.Pick.{pick}
 use Rattle.choice.proofs.Tests.{never}
 use Rattle.areas.specs.Areas.{areaSize}
 use Rattle.areas.proofs.Laws.{within}
 use Rattle.answers.specs.Classes.{successful}
-use Rattle.record.specs.Answers.{Told}
+use Rattle.answers.specs.Classes.Class.{performed}
+use Rattle.answers.specs.Answers.{said}
+use Rattle.record.specs.Answers.{Told, saidOf}
 use Rattle.record.specs.Fields.{top}
+use Rattle.record.specs.Given.{standing}
 use Rattle.record.specs.declared.Record.{Record}
 use Rattle.record.specs.declared.Opening.{Opening}
 use Rattle.answers.specs.declared.Refusal.the-variants.{LongSnapshot}
 use Rattle.wholeness.specs.Whole.{whole}
 use Rattle.step_opens.specs.Opening.{unopened, openBars, opening, openStep}
-use Rattle.calls.specs.Calls.{Call}
+use Rattle.step_stamps.specs.Stamping.{saysStamping}
+use Rattle.step_stamps.specs.declared.SaveStamp.{SaveStamp}
+use Rattle.step_stamps.specs.declared.Stamping.the-variants.{Taken}
+use Rattle.calls.specs.Calls.{Call, step}
+use Rattle.calls.specs.Calls.Call.{stamp, check}
 use Rattle.demand_chains.specs.Sending.{Sent, afterSent, heardSent}
+use Rattle.demand_steps.specs.Typed.{Typed}
 use Rattle.demand_steps.specs.Watching.{Watch, watch, unwatched}
 use Rattle.demand_chains.specs.Plans.{planned, plannedBack, due}
-use Rattle.demand_chains.specs.Promises.{revisionAfter, Forward, Backward, Asking}
+use Rattle.demand_chains.specs.Promises.{stampPasses, revisionAfter, replacementsAfter, Forward, Backward, Asking}
 use Rattle.demand_chains.specs.Progress.{counted, wanted, Progress, Finishes}
 use Rattle.demand_chains.specs.Turning.{recoveredIn, UntilRecovery, Recoveries, back, untouched}
 use Rattle.demand_chains.specs.DemandThree.{DemandThree}
 use Rattle.demand_steps.proofs.Own.{row}
-use Rattle.demand_steps.proofs.Facts.Stage.{flat}
-use Rattle.demand_steps.proofs.Facts.Calm.{off}
+use Rattle.demand_steps.proofs.Advancing.{idles}
+use Rattle.demand_steps.proofs.Calming.{range}
 use Rattle.demand_steps.proofs.Wholeness.{whole-test}
 use Rattle.demand_chains.proofs.Course.Kind.{updateOnly}
 use Rattle.demand_chains.proofs.Course.Course.{ahead}
 use Rattle.demand_chains.proofs.Chain.{Good, good-chain}
-use Rattle.demand_chains.proofs.Revision.{chain-gains}
+use Rattle.demand_chains.proofs.Revision.{chain-gains, chain-counts}
+use Rattle.demand_chains.proofs.Stamps.{stamp-law}
 use Rattle.demand_chains.proofs.Demands.{demand-three}
 
-good-opening : (given : Opening) (l : ℕ) → given .revision ≤ top → l ≤ areaSize → Good unwatched (opening given l)
+good-opening : (given : Opening) (l : ℕ) → Typed given → l ≤ areaSize → Good unwatched (opening given l)
 unfolding opening unwatched
 good-opening given l m h = record {
-  is-whole = record {
-    lengths = record { accepted = h; candidate = omega arith; recovery = omega arith };
-    size = omega arith;
-    stage = flat refl refl refl refl;
-    ticket = tt;
-    calm = off refl m refl refl refl;
-  };
+  is-whole = idles given l m h;
   tied = record { running = refl; turning = refl; kind = updateOnly refl refl; last = tt; course = ahead refl refl refl refl refl };
 }
 
 -- an opening that is not refused gives the record of that opening
-module _ (sized : Bool) (given : Opening) (l : ℕ) (m : given .revision ≤ top) where
+module _ (sized : Bool) (given : Opening) (l : ℕ) (m : Typed given) where
   abbrev Opened : Told → Type 0
-  Opened x = successful (x .class) ≡ true → Good unwatched (x .state) × (x .state .revision ≡ given .revision)
+  Opened x = successful (x .class) ≡ true → Good unwatched (x .state) × (standing (x .state) ≡ given)
 
   opened : Opened (openStep sized given l)
   unfolding openStep opening
   opened = row Opened unopened (λ why e. never (sym e)) (openBars sized l) (λ f e. (good-opening given l m (within l (f LongSnapshot)), refl))
 
--- "In such a chain from an opening that is not refused, the log aside and every area of the right size"; the revision is a u64
-module _ (sized : Bool) (given : Opening) (l : ℕ) (m : given .revision ≤ top) (o : successful (openStep sized given l .class) ≡ true) (ss : List Sent) where
+-- "In such a chain from an opening that is not refused, the log aside and every area of the right size"; revision and count are u64s
+module _ (sized : Bool) (given : Opening) (l : ℕ) (m : Typed given) (o : successful (openStep sized given l .class) ≡ true) (ss : List Sent) where
   abbrev now : Record
   now = afterSent (openStep sized given l .state) ss
 
@@ -68,13 +72,28 @@ module _ (sized : Bool) (given : Opening) (l : ℕ) (m : given .revision ≤ top
   pub good : Good seen now
   good = good-chain unwatched _ ss (opened sized given l m o .0)
 
-  pub demands : DemandThree (given .revision) now seen
+  pub demands : DemandThree given now seen
   unfolding unwatched
-  demands = demand-three _ seen now good (let g = chain-gains unwatched (openStep sized given l .state) ss in omega (arith, opened sized given l m o .1))
+  demands =
+      let r : Record = openStep sized given l .state in
+      let e : standing r ≡ given = opened sized given l m o .1 in
+      demand-three _ seen now good
+      (let g = chain-gains unwatched r ss in let v = ap (λ (x : Opening). x .revision) e in omega arith)
+      (let g = chain-counts unwatched r ss in let v = ap (λ (x : Opening). x .replacements) e in omega arith)
 
   -- "the revision is the opening one plus the successful commits"
   pub revision-law : now .revision ≡ revisionAfter (given .revision) (seen .commits)
   revision-law = demands .revision-law
+
+  -- request 3: and the count of replacements is the opening one plus the successful commits, recoveries and refreshes
+  pub replacements-law : now .replacements ≡ replacementsAfter (given .replacements) (seen .replacements)
+  replacements-law = demands .replacements-law
+
+  -- demand 2, by request 3: of a stamp taken anywhere in the chain
+  pub stamps-anywhere : (d : ℕ) (s : SaveStamp) (us : List Sent) (e : ℕ) → saidOf (step now (stamp d)) ≡ saysStamping (Taken s) →
+      let since = watch unwatched (heardSent now us) in
+      saidOf (step (afterSent now us) (check e s)) ≡ said performed (pick (stampPasses (since .running) e d (since .replacements)) 1 0 ∷ [])
+  stamps-anywhere d s us e h = stamp-law now d s us e (range (good .is-whole .calm)) h
 
   -- "For a staged transaction of n updates with no rollback granted, commit succeeds exactly after 5 + n Done reports .."
   pub commit-exactly : seen .running ≡ true → seen .turned ≡ false → Forward now seen

@@ -22,7 +22,7 @@ use Rattle.demand_steps.specs.Watching.{hears, Watch, hearsReport, sees, watch}
 use Rattle.demand_chains.specs.Turning.{recovers, recoveredIn, UntilRecovery}
 use Rattle.demand_steps.proofs.Own.{own, row}
 use Rattle.demand_steps.proofs.Leaf.{Leaf}
-use Rattle.demand_steps.proofs.Leaf.Leaf.{kept, began, structureAsked, updateEnded, updateAsked, rollbackEnded, turnedEmpty, turnedAsked, waited, went, updateTaken, undoTaken, committed, recovered, restored}
+use Rattle.demand_steps.proofs.Leaf.Leaf.{kept, began, structureAsked, updateEnded, updateAsked, rollbackEnded, turnedEmpty, turnedAsked, waited, went, updateTaken, undoTaken, committed, recovered, restored, refreshed}
 use Rattle.demand_steps.proofs.Facts.{Whole}
 use Rattle.demand_steps.proofs.Keeping.{report-keeps}
 use Rattle.demand_chains.proofs.Noting.{Tied}
@@ -64,7 +64,7 @@ module _ {r : Record} (w : Watch) (d : Tied w r) (i : w .running ≡ true) (v : 
   stays : {c : Call} {x : Told} → Leaf r c x → (c ≡ commit → Unperformed x) → recovers (hears c x) ≡ false → Stays w (sees w c (saidOf x))
   unfolding sees kindOf pick _or_ _and_
   stays (kept u f) m n = rw (u w) alike
-  stays (began j l f q) m n = clash _ (sym (d .running) ∙ i) j
+  stays (began j l k f q) m n = clash _ (sym (d .running) ∙ i) j
   stays (structureAsked y) m n = record { running = i; turned = v; structural = refl; started = refl }
   stays (updateEnded u e s) m n = alike
   stays (updateAsked u e s) m n = clash _ (sym (d .turning) ∙ v) e
@@ -76,8 +76,9 @@ module _ {r : Record} (w : Watch) (d : Tied w r) (i : w .running ≡ true) (v : 
   stays (updateTaken {t = t} o l g) m n = report-stays _ t _ w i v
   stays (undoTaken {t = t} o l g) m n = report-stays _ t _ w i v
   stays (committed j) m n = never (m refl)
-  stays (recovered j) m n = never n
-  stays restored m n = never n
+  stays (recovered e j) m n = never n
+  stays (restored e) m n = never n
+  stays (refreshed e k j) m n = record { running = i; turned = v; structural = refl; started = refl }
 
 commit-shut : {r : Record} → Whole r → r .staged ≡ true → r .restoring ≡ true → step r commit .number ≡ 4
 unfolding own commitOwn complete pick _and_ _or_

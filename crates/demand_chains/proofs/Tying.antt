@@ -20,7 +20,7 @@ use Rattle.demand_steps.specs.Watching.{Watch, isFor, sees}
 use Rattle.demand_steps.specs.Watching.Item.{apply, undo}
 use Rattle.demand_steps.proofs.Leaf.{Goes, Leaf}
 use Rattle.demand_steps.proofs.Leaf.Goes.{last, more}
-use Rattle.demand_steps.proofs.Leaf.Leaf.{kept, began, structureAsked, updateEnded, updateAsked, rollbackEnded, turnedEmpty, turnedAsked, waited, went, updateTaken, undoTaken, committed, recovered, restored}
+use Rattle.demand_steps.proofs.Leaf.Leaf.{kept, began, structureAsked, updateEnded, updateAsked, rollbackEnded, turnedEmpty, turnedAsked, waited, went, updateTaken, undoTaken, committed, recovered, restored, refreshed}
 use Rattle.demand_steps.proofs.Facts.{Whole, tests, byCase}
 use Rattle.demand_steps.proofs.Testing.{ranges}
 use Rattle.demand_steps.proofs.Moves as M
@@ -48,7 +48,7 @@ first false = updateOnly refl refl
 pub tie : {r : Record} {c : Call} {x : Told} (w : Watch) → Whole r → Tied w r → Leaf r c x → Tied (sees w c (saidOf x)) (x .state)
 unfolding sees begun turned adopting opening pick
 tie w h d (kept u f) = rw (u w) record { running = d .running; turning = d .turning; kind = d .kind; last = d .last; course = d .course }
-tie w h d (began {structural = s} i l f m) = record { running = refl; turning = refl; kind = first s; last = tt; course = ahead refl refl refl refl refl }
+tie w h d (began {structural = s} i l k f m) = record { running = refl; turning = refl; kind = first s; last = tt; course = ahead refl refl refl refl refl }
 tie w h d (structureAsked y) = record { running = d .running; turning = d .turning; kind = d .kind; last = (refl, refl); course = d .course }
 tie w h d (updateEnded u e s) = record {
   running = d .running;
@@ -97,5 +97,6 @@ tie {r} w h d (undoTaken {t = t} {s = a} o l g) =
       course = lower (d .course) (y .behind) (undo-back (inUndo (h .stage) (y .behind) (y .some))) (y .some) (q .1);
     }
 tie w h d (committed i) = record { running = refl; turning = refl; kind = updateOnly refl refl; last = tt; course = ahead refl refl refl refl refl }
-tie w h d (recovered i) = record { running = refl; turning = refl; kind = updateOnly refl refl; last = tt; course = ahead refl refl refl refl refl }
-tie w h d restored = record { running = refl; turning = refl; kind = updateOnly refl refl; last = tt; course = ahead refl refl refl refl refl }
+tie w h d (recovered e i) = record { running = refl; turning = refl; kind = updateOnly refl refl; last = tt; course = ahead refl refl refl refl refl }
+tie w h d (restored e) = record { running = refl; turning = refl; kind = updateOnly refl refl; last = tt; course = ahead refl refl refl refl refl }
+tie w h d (refreshed e k i) = record { running = d .running; turning = d .turning; kind = d .kind; last = d .last; course = d .course }

@@ -1,6 +1,6 @@
--- Demand 3 whole: of the record r that a chain from an opening at revision v reaches, and of what the watcher then knows, w. Assumes
--- nothing.
-use Prim.Native.Nat.{ℕ, _+_, _≤_}
+-- Demand 3 whole, with the count of request 3: of the record r that a chain from an opening reaches, and of what the watcher then knows,
+-- w. Assumes nothing.
+use Prim.Native.Nat.{_+_, _≤_}
 use mathlib.Core.Path.{_≡_}
 use mathlib.Core.Bool.{true, false}
 use mathlib.Core.List.{List}
@@ -8,16 +8,18 @@ use mathlib.Core.Logic.{_≢_}
 use lib.ListN.{length}
 use Rattle.record.specs.Fields.{top}
 use Rattle.record.specs.declared.Record.{Record}
+use Rattle.record.specs.declared.Opening.{Opening}
 use Rattle.calls.specs.Calls.{Call}
 use Rattle.demand_chains.specs.Sending.{Sent, afterSent, heardSent}
 use Rattle.demand_steps.specs.Watching.{Watch, watch}
 use Rattle.demand_chains.specs.Plans.{planned, plannedBack, due}
-use Rattle.demand_chains.specs.Promises.{revisionAfter, Forward, Backward, Asking}
+use Rattle.demand_chains.specs.Promises.{revisionAfter, replacementsAfter, Forward, Backward, Asking}
 use Rattle.demand_chains.specs.Progress.{counted, wanted, Progress, Finishes}
 use Rattle.demand_chains.specs.Turning.{recoveredIn, UntilRecovery, Recoveries, back, untouched}
 
-pub record DemandThree (v : ℕ) (r : Record) (w : Watch) : Type 0 where
-  pub revision-law : r .revision ≡ revisionAfter v (w .commits)
+pub record DemandThree (given : Opening) (r : Record) (w : Watch) : Type 0 where
+  pub revision-law : r .revision ≡ revisionAfter (given .revision) (w .commits)
+  pub replacements-law : r .replacements ≡ replacementsAfter (given .replacements) (w .replacements)
   pub commit-exactly : w .running ≡ true → w .turned ≡ false → Forward r w
   pub recovery-exactly : w .running ≡ true → w .turned ≡ true → Backward r w
   pub never-locked : w .running ≡ true → (w .turned ≡ false → length (w .done) ≢ planned (w .structural) (w .size)) →

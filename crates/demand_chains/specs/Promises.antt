@@ -14,13 +14,18 @@ use Rattle.calls.specs.Calls.Call.{commit, recoverRetained}
 use Rattle.demand_steps.specs.Watching.{Watch}
 use Rattle.demand_chains.specs.Plans.{planned, planAt, plannedBack, backAt, firsts, due}
 
--- "a stamp taken in it passes exactly if nothing is staged, the domain is equal and no commit has succeeded since it was taken"
+-- "a stamp taken in it passes exactly if nothing is staged, the domain is equal and", by request 3, "no commit, recovery or refresh has
+-- succeeded since"
 unfoldable pub stampPasses : Bool → ℕ → ℕ → ℕ → Bool
-stampPasses staged domain stampDomain commits = not staged and eqb domain stampDomain and eqb commits 0
+stampPasses staged domain stampDomain replacements = not staged and eqb domain stampDomain and eqb replacements 0
 
 -- "the revision is the opening one plus the successful commits"
 abbrev pub revisionAfter : ℕ → ℕ → ℕ
 revisionAfter opening commits = opening + commits
+
+-- request 3: "a count of replacements, raised by commit, both recoveries and refresh"
+abbrev pub replacementsAfter : ℕ → ℕ → ℕ
+replacementsAfter opening replacements = opening + replacements
 
 -- "commit succeeds exactly after 5 + n Done reports that are taken (n if update-only), in the fixed order"
 pub record Forward (r : Record) (w : Watch) : Type 0 where

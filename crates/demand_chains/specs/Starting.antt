@@ -32,6 +32,7 @@ startedOf false r = r .attempted
 unfoldable pub watchOf : Record → Watch
 watchOf r = record {
   commits = 0;
+  replacements = 0;
   running = r .staged;
   structural = leb 1 (r .phase .number);
   size = r .entries;

@@ -1,6 +1,6 @@
 -- A chain of real calls, each handed all that the last left, has the records and the answers of the chain of calls as they are sent: so
 -- every theorem over those holds of it, and demands 2 and 3 with them. Assumes nothing.
-use Prim.Native.Nat.{ℕ, _≤_}
+use Prim.Native.Nat.{ℕ}
 use mathlib.Core.Path.{_≡_, refl, sym, _∙_, ap}
 use mathlib.Core.Bool.{Bool, true}
 use mathlib.Core.List.{List, [], _∷_, _++_}
@@ -10,9 +10,9 @@ use Rattle.answers.specs.Classes.{successful}
 use Rattle.answers.specs.Classes.Class.{performed}
 use Rattle.answers.specs.Answers.{said}
 use Rattle.record.specs.Answers.{Told, saidOf}
-use Rattle.record.specs.Fields.{top}
 use Rattle.record.specs.declared.Record.{Record}
 use Rattle.record.specs.declared.Opening.{Opening}
+use Rattle.record.specs.Given.{standing}
 use Rattle.step_opens.specs.Opening.{openStep}
 use Rattle.step_stamps.specs.Stamping.{saysStamping}
 use Rattle.step_stamps.specs.declared.SaveStamp.{SaveStamp}
@@ -23,6 +23,7 @@ use Rattle.calls.specs.Calls.AnyCall.{opens, calls}
 use Rattle.calls.specs.Lending.{leavesOf, unopened}
 use Rattle.calls.specs.Lending.Lending.{openAt}
 use Rattle.noting.specs.Through.{leavesThrough}
+use Rattle.demand_steps.specs.Typed.{Typed}
 use Rattle.demand_steps.specs.Watching.{Heard, hears, Watch, watch, unwatched}
 use Rattle.demand_chains.specs.Sending.{Sent, answeredAny, afterSent, heardSent}
 use Rattle.demand_chains.specs.Promises.{stampPasses}
@@ -74,22 +75,23 @@ module _ (h : Held) (ds : List Doing) where
   abbrev seen : Watch
   seen = watch unwatched (heardHeld h ds)
 
-  -- "a stamp taken in it passes exactly if nothing is staged, the domain is equal and no commit has succeeded since it was taken"
-  pub held-stamps : (d : ℕ) (s : SaveStamp) (e : ℕ) → h .state .revision ≤ top → saidOf (step (h .state) (stamp d)) ≡ saysStamping (Taken s) →
-      saidOf (step now (check e s)) ≡ said performed (pick (stampPasses (seen .running) e d (seen .commits)) 1 0 ∷ [])
+  -- "a stamp taken in it passes exactly if nothing is staged, the domain is equal and", by request 3, "no commit, recovery or refresh has
+  -- succeeded since"
+  pub held-stamps : (d : ℕ) (s : SaveStamp) (e : ℕ) → Typed (standing (h .state)) → saidOf (step (h .state) (stamp d)) ≡ saysStamping (Taken s) →
+      saidOf (step now (check e s)) ≡ said performed (pick (stampPasses (seen .running) e d (seen .replacements)) 1 0 ∷ [])
   held-stamps d s e m t = rw (held-after h ds, held-heard h ds) (stamp-law (h .state) d s (sentHeld h ds) e m t)
 
   -- "In such a chain from an opening that is not refused": of the transaction, and of the recorder
-  module _ (given : Opening) (a p : List ℕ) (m : given .revision ≤ top) where
+  module _ (given : Opening) (a p : List ℕ) (m : Typed given) where
     from : (sized : Bool) (l : ℕ) → successful (openStep sized given l .class) ≡ true → h .state ≡ openStep sized given l .state
-        → DemandThree (given .revision) now seen
+        → DemandThree given now seen
     from sized l o e = rw (held-after h ds, held-heard h ds) (rw (← e) at (demands sized given l m o (sentHeld h ds)))
 
     pub held-demands : successful (leavesOf unopened (openAt given a p) .told .class) ≡ true → h .state ≡ leavesOf unopened (openAt given a p) .told .state
-        → DemandThree (given .revision) now seen
+        → DemandThree given now seen
     held-demands = from _ _
 
     pub held-demands-logged : (log : List ℕ) → successful (leavesThrough unopened log (openAt given a p) .told .class) ≡ true
-        → h .state ≡ leavesThrough unopened log (openAt given a p) .told .state → DemandThree (given .revision) now seen
+        → h .state ≡ leavesThrough unopened log (openAt given a p) .told .state → DemandThree given now seen
     unfolding leavesThrough
     held-demands-logged log = from _ _

@@ -8,8 +8,8 @@ use lib.ListN.{length, length-append}
 use native.Mathlib.Omega.{arith}
 use Rattle.record.specs.Answers.{Told, refuse}
 use Rattle.record.specs.Leaves.{Leaves}
-use Rattle.record.specs.Fields.{top}
 use Rattle.record.specs.declared.Record.{Record}
+use Rattle.record.specs.Given.{standing}
 use Rattle.answers.specs.declared.Refusal.the-variants.{LogFull}
 use Rattle.wholeness.specs.Whole.{whole}
 use Rattle.log.specs.Log.{logSized, count, room, sound}
@@ -17,6 +17,7 @@ use Rattle.events.specs.Entries.{Entry, entries, logOf}
 use Rattle.log.proofs.Room.{head-of}
 use Rattle.events.proofs.Entries.{entries-length}
 use Rattle.calls.specs.Calls.{Call, step}
+use Rattle.demand_steps.specs.Typed.{Typed}
 use Rattle.demand_steps.specs.Watching.{Heard, hears}
 use Rattle.demand_chains.specs.Chains.{after, heard}
 use Rattle.demand_logs.specs.Logged.{loggedStep, logged, events}
@@ -36,7 +37,7 @@ always-sound = keeps (λ r l. sound l ≡ true) step-sound
 pub always-length : (cs : List Call) (r : Record) (log : List ℕ) → length (logged r log cs .log) ≡ length log
 always-length cs r log = keeps (λ q l. length l ≡ length log) (λ q l c e. step-length q l c ∙ e) cs r log refl
 
-pub logged-chain : (cs : List Call) (r : Record) (log : List ℕ) → logSized (length log) ≡ true → sound log ≡ true → whole r ≡ true → r .revision ≤ top →
+pub logged-chain : (cs : List Call) (r : Record) (log : List ℕ) → logSized (length log) ≡ true → sound log ≡ true → whole r ≡ true → Typed (standing r) →
     (whole (logged r log cs .state) ≡ true) × (sound (logged r log cs .log) ≡ true)
 logged-chain cs r log h s w m =
     let k = keeps (λ q l. (Sound q × (sound l ≡ true)) × (length l ≡ length log))

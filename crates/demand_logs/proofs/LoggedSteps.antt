@@ -16,8 +16,8 @@ use Rattle.choice.proofs.Tests.{never, test}
 use Rattle.answers.specs.Classes.{Class}
 use Rattle.record.specs.Answers.{Told, refuse}
 use Rattle.record.specs.Leaves.{Leaves, leaves}
-use Rattle.record.specs.Fields.{top}
 use Rattle.record.specs.declared.Record.{Record}
+use Rattle.record.specs.Given.{standing}
 use Rattle.answers.specs.declared.Refusal.the-variants.{LogFull}
 use Rattle.wholeness.specs.Whole.{whole}
 use Rattle.log.specs.Log.{logSized, count, room, sound, full}
@@ -31,6 +31,7 @@ use Rattle.calls.specs.Calls.{Call, stepWith, step}
 use Rattle.calls.specs.Calls.AnyCall.{calls}
 use Rattle.calls.specs.Lending.{Lending, callOf, fits, lent, moved}
 use Rattle.calls.specs.Kinds.{noKind, kindOf, writtenAs}
+use Rattle.demand_steps.specs.Typed.{Typed}
 use Rattle.demand_chains.specs.Sending.{written}
 use Rattle.demand_refusals.proofs.NeverFull.{never-full}
 use Rattle.demand_chains.proofs.Sending.{recorded-answer}
@@ -46,9 +47,9 @@ pub record Kept (r : Record) (log : List ℕ) (c : Call) (v : Leaves) : Type 0 w
   pub told : v .told ≡ step r c
   pub noting : entries (logOf v) ≡ entries log ++ eventOf r c
 
--- a record that a call may leave: whole, and its revision a u64
+-- a record that a call may leave: whole, and its revision and its count u64s
 abbrev pub Sound : Record → Type 0
-Sound r = (whole r ≡ true) × (r .revision ≤ top)
+Sound r = (whole r ≡ true) × Typed (standing r)
 
 -- "Opening, stamps and edits are not written": nor is any call without a kind
 unwritten : (c : Call) (a : Class) → eqb (kindOf c) noKind ≡ true → written c a ≡ false

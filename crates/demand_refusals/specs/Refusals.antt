@@ -1,4 +1,4 @@
--- Document 01, "What a call answers" and "The steps", and document 02, request 1: for each call, the numbers that it answers in the
+-- Document 01, "What a call answers" and "The steps", and document 02, requests 1 and 3: for each call, the numbers that it answers in the
 -- order given, each with its test in the document's words. Where a sentence of document 01 has 8, 14, 15 and 16 "take its place in the
 -- order of checks". Assumes nothing.
 use Prim.Native.Nat.{ℕ, _+_, _-_}
@@ -63,11 +63,12 @@ snapshotRows length next = 16 when long length ∷ next
 abbrev pub doneRows : List Row
 doneRows = 0 when otherwise ∷ []
 
--- "Begin, begin structural: 1, 3, 8, 9."; 1: "while staged"; 3: "at revision 18446744073709551615"; 9: "over 64 actions"
+-- "Begin, begin structural: 1, 3, 8, 9."; 1: "while staged"; 3: "at revision 18446744073709551615", and by request 3 where the count of
+-- replacements "is at the u64 maximum"; 9: "over 64 actions"
 abbrev pub beginRows : Record → Beginning → List Row
 beginRows r b =
     1 when r .staged
-    ∷ 3 when eqb (r .revision) top
+    ∷ 3 when (eqb (r .revision) top or eqb (r .replacements) top)
     ∷ payloadRows (b .candidate) (b .recovery) (9 when ltb limit (b .actions) ∷ doneRows)
 
 -- "2; 4 if entries > 0 or phase not 0 or 13"; 2: "while not staged"
@@ -117,8 +118,9 @@ rows sized sound r (calls commit) =
 rows sized sound r (calls (recover n)) = gateRows sized sound r (recoverRows r (snapshotRows n doneRows))
 -- "Recover from the retained payload: 2, 4 alike"
 rows sized sound r (calls recoverRetained) = gateRows sized sound r (recoverRows r doneRows)
--- "Refresh: 1, 8"
-rows sized sound r (calls (refresh n)) = gateRows sized sound r (1 when r .staged ∷ snapshotRows n doneRows)
+-- "Refresh: 1, 8", with 3 by request 3: "after Pending"
+rows sized sound r (calls (refresh n)) =
+    gateRows sized sound r (1 when r .staged ∷ 3 when eqb (r .replacements) top ∷ snapshotRows n doneRows)
 -- "Stamp .., refused 1"; nothing is lent, so that there is no 6
 rows sized sound r (calls (stamp domain)) = 7 when not (whole r) ∷ 1 when r .staged ∷ doneRows
 -- "checking a stamp answers yes, no or 7"

@@ -5,11 +5,12 @@ use mathlib.Core.Bool.{true}
 use native.Mathlib.Omega.{arith}
 use Rattle.phases.specs.Phases.{hasSuccessor}
 use Rattle.areas.specs.Areas.{areaSize}
-use Rattle.record.specs.Fields.{top, spent}
+use Rattle.record.specs.Fields.{spent}
 use Rattle.record.specs.declared.Record.{Record}
 use Rattle.step_structure.specs.Structure.{advanced, storing}
 use Rattle.record.specs.Given.{opening}
 use Rattle.record.specs.declared.Opening.{Opening}
+use Rattle.demand_steps.specs.Typed.{Typed}
 use Rattle.demand_steps.proofs.Leaf.{Apart, Left}
 use Rattle.demand_steps.proofs.Facts.{Whole, byCase}
 use Rattle.demand_steps.proofs.Facts.Stage.{flat}
@@ -41,12 +42,12 @@ advances {r} {new} {old} w y f =
     })
 
 -- the record of an opening
-pub idles : (given : Opening) (a : ℕ) → given .revision ≤ top → a ≤ areaSize → Whole (opening given a)
+pub idles : (given : Opening) (a : ℕ) → Typed given → a ≤ areaSize → Whole (opening given a)
 unfolding opening
 idles given a m l = record {
   lengths = record { accepted = l; candidate = omega arith; recovery = omega arith };
   size = omega arith;
   stage = flat refl refl refl refl;
   ticket = tt;
-  calm = off refl m refl refl refl;
+  calm = off refl (m .revision) (m .replacements) refl refl refl;
 }

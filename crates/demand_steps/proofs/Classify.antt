@@ -41,7 +41,7 @@ use Rattle.demand_steps.proofs.Own.{own, row, answers}
 use Rattle.demand_steps.proofs.Unseen.{Unseen, unseen}
 use Rattle.demand_steps.proofs.Leaf.{Apart, Updates, Left, Leaf}
 use Rattle.demand_steps.proofs.Leaf.Goes.{last, more}
-use Rattle.demand_steps.proofs.Leaf.Leaf.{kept, began, structureAsked, updateEnded, updateAsked, rollbackEnded, turnedEmpty, turnedAsked, waited, went, updateTaken, undoTaken, committed, recovered, restored}
+use Rattle.demand_steps.proofs.Leaf.Leaf.{kept, began, structureAsked, updateEnded, updateAsked, rollbackEnded, turnedEmpty, turnedAsked, waited, went, updateTaken, undoTaken, committed, recovered, restored, refreshed}
 
 -- which tests must fail for a call to be performed, as facts
 open-tests : (p : ℕ) → eqb p 0 or eqb p 5 or eqb p 8 ≡ false → eqb p 7 or eqb p 13 ≡ false → Apart p
@@ -83,7 +83,8 @@ module _ (r : Record) where
   pub classify : (c : Call) → Leaf r c (own r c)
   unfolding own beginOwn editOwn askStructureOwn askUpdateOwn askRollbackOwn reportStructureOwn reportUpdateOwn reportRollbackOwn commitOwn recoverOwn recoverRetainedOwn refreshOwn structureDone updateDone rollbackDone adopting leaving sees
   classify (begin structural b) =
-      barred (beginBars r b) (λ f. began (f Pending) (eqb-ne _ _ (f Capacity)) (stores _ _ (f LongCandidate) (f LongRecovery)) (ltb-false _ _ (f TooMany)))
+      barred (beginBars r b) (λ f. let x = neither (f Capacity) in
+      began (f Pending) (eqb-ne _ _ (x .0)) (eqb-ne _ _ (x .1)) (stores _ _ (f LongCandidate) (f LongRecovery)) (ltb-false _ _ (f TooMany)))
   classify (ask structure) =
       split _ (λ e. refuses _) (λ e₁. split _ (λ e. kept finished-unseen (λ l. l)) (λ e₂. split _ (λ e. refuses _) (λ e₃. structureAsked (open-tests _ e₁ e₂))))
   classify (ask update) =
@@ -105,11 +106,10 @@ module _ (r : Record) where
       outcomes (λ k. k) (split _ (λ h. undoTaken refl l (last (eqb-true _ _ h))) (λ h. undoTaken refl l (more (eqb-ne _ _ h)))) x)
   classify (edit c o) = barred (editBars r c o) (λ f. kept (λ w. refl) (stores c o (f LongCandidate) (f LongRecovery)))
   classify commit = barred (commitBars r) (λ f. committed (not-false _ (f Idle)))
-  classify (recover n) = barred (recoverBars r (longSnapshot n [])) (λ f. recovered (within n (f LongSnapshot)))
-  classify recoverRetained = barred (recoverBars r []) (λ f. restored)
+  classify (recover n) = barred (recoverBars r (longSnapshot n [])) (λ f. recovered (not-false _ (f Idle)) (within n (f LongSnapshot)))
+  classify recoverRetained = barred (recoverBars r []) (λ f. restored (not-false _ (f Idle)))
   classify (refresh n) =
-      barred (refreshBars r n) (λ f. kept (λ w. refl) (λ l.
-      record { accepted = within n (f LongSnapshot); candidate = l .candidate; recovery = l .recovery }))
+      barred (refreshBars r n) (λ f. refreshed (f Pending) (eqb-ne _ _ (f Capacity)) (within n (f LongSnapshot)))
   classify (stamp domain) = split _ (λ e. refuses _) (λ e. kept (λ w. refl) (λ l. l))
   classify (check domain s) = split _ (λ e. kept (λ w. refl) (λ l. l)) (λ e. kept (λ w. refl) (λ l. l))
 

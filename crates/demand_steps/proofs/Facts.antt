@@ -99,13 +99,13 @@ Tick (Structure t) s p n a k v = OnStructure t s p
 Tick (Update t) s p n a k v = OnUpdate t s p a k v
 Tick (Rollback t) s p n a k v = OnRollback t s n v
 
-pub data Calm (s : Bool) (v p n : ℕ) (l : Live) : Type 0 where
-  on : s ≡ true → v < top → Calm s v p n l
-  off : s ≡ false → v ≤ top → p ≡ 0 → n ≡ 0 → l ≡ None → Calm s v p n l
+pub data Calm (s : Bool) (v c p n : ℕ) (l : Live) : Type 0 where
+  on : s ≡ true → v < top → c < top → Calm s v c p n l
+  off : s ≡ false → v ≤ top → c ≤ top → p ≡ 0 → n ≡ 0 → l ≡ None → Calm s v c p n l
 
 pub record Whole (r : Record) : Type 0 where
   pub lengths : Lengths (r .accepted) (r .candidate) (r .recovery)
   pub size : Counts (r .entries) (r .applied) (r .attempted)
   pub stage : Stage (r .phase .number) (r .forward) (r .back) (r .entries) (r .applied) (r .attempted) (r .restoring)
   pub ticket : Tick (r .live) (r .serial) (r .phase .number) (r .entries) (r .applied) (r .attempted) (r .restoring)
-  pub calm : Calm (r .staged) (r .revision) (r .phase .number) (r .entries) (r .live)
+  pub calm : Calm (r .staged) (r .revision) (r .replacements) (r .phase .number) (r .entries) (r .live)

@@ -21,7 +21,7 @@ use Rattle.record.specs.declared.Beginning.{Beginning}
 use Rattle.tickets.specs.declared.Live.the-variants.{Structure, Update, Rollback}
 use Rattle.record.specs.declared.Outcome.the-variants as O
 use Rattle.answers.specs.declared.Answer.the-variants.{Done, Finished}
-use Rattle.answers.specs.declared.Was.the-variants.{Nothing, Three}
+use Rattle.answers.specs.declared.Was.the-variants.{Nothing, One, Three}
 use Rattle.step_begins.specs.Beginning.{firstPhase, begun}
 use Rattle.record.specs.Given.{opening}
 use Rattle.issuing.specs.Issuing.{issue}
@@ -30,12 +30,13 @@ use Rattle.step_rollbacks.specs.Rollbacks.{turned}
 use Rattle.step_structure.specs.Structure.{advanced, storing}
 use Rattle.step_updates.specs.Updates.{raised}
 use Rattle.step_undos.specs.Undos.{lowered}
+use Rattle.step_ends.specs.Ending as Ending
 use Rattle.step_ends.specs.Ending.{afterCommit}
 use Rattle.step_recoveries.specs.Recovering.{recoveredTo}
 use Rattle.calls.specs.Calls.{Call}
 use Rattle.calls.specs.Calls.Work.{structure, update, rollback}
 use Rattle.calls.specs.Calls.Report.{structured, updated, rolledBack}
-use Rattle.calls.specs.Calls.Call.{begin, ask, report, commit, recover, recoverRetained}
+use Rattle.calls.specs.Calls.Call.{begin, ask, report, commit, recover, recoverRetained, refresh}
 use Rattle.demand_steps.proofs.Unseen.{Unseen}
 
 -- phases 0, 5 and 8, and 7 and 13, are none of them
@@ -66,7 +67,7 @@ Left r a c o = Lengths (r .accepted) (r .candidate) (r .recovery) → Lengths a 
 
 pub data Leaf (r : Record) : Call → Told → Type 0 where
   kept : {c : Call} {s : Said} {a n o : ℕ} → Unseen c s → Left r a n o → Leaf r c (told s (withLengths a n o r))
-  began : {structural : Bool} {b : Beginning} → r .staged ≡ false → r .revision ≢ top → Left r (r .accepted) (b .candidate) (b .recovery) → b .actions ≤ limit →
+  began : {structural : Bool} {b : Beginning} → r .staged ≡ false → r .revision ≢ top → r .replacements ≢ top → Left r (r .accepted) (b .candidate) (b .recovery) → b .actions ≤ limit →
       Leaf r (begin structural b) (answer (Done Nothing) (begun (firstPhase structural) b r))
   structureAsked : Apart (r .phase .number) → Leaf r (ask structure) (issue Structure (r .phase .number) r)
   updateEnded : Updates (r .phase .number) → r .restoring ≡ false → r .applied ≡ r .entries → Leaf r (ask update) (answer Finished (adopting r))
@@ -82,5 +83,6 @@ pub data Leaf (r : Record) : Call → Told → Type 0 where
   undoTaken : {t p : ℕ} {s : StepAnswer} → takes s ≡ true → isLive Tickets.rollback t (r .live) ≡ true → Goes (r .entries - 1) 0 undo recoverRemove (r .phase .number) p →
       Leaf r (report rolledBack t O.Done) (told (said (stepping s) []) (withPlace p (r .forward) (r .back) (lowered (spent r))))
   committed : r .staged ≡ true → Leaf r commit (answer (Done (Three (r .accepted) (r .recovery) (r .entries))) (opening (afterCommit r) (r .candidate)))
-  recovered : {n : ℕ} → n ≤ areaSize → Leaf r (recover n) (recoveredTo n r)
-  restored : Leaf r recoverRetained (recoveredTo (r .recovery) r)
+  recovered : {n : ℕ} → r .staged ≡ true → n ≤ areaSize → Leaf r (recover n) (recoveredTo n r)
+  restored : r .staged ≡ true → Leaf r recoverRetained (recoveredTo (r .recovery) r)
+  refreshed : {n : ℕ} → r .staged ≡ false → r .replacements ≢ top → n ≤ areaSize → Leaf r (refresh n) (answer (Done (One (r .accepted))) (Ending.refreshed n r))

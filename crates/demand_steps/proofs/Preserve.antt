@@ -6,19 +6,21 @@ use native.Mathlib.Omega.{arith}
 use Rattle.choice.specs.Pick.{pick}
 use Rattle.record.specs.Answers.{Told}
 use Rattle.record.specs.Fields.{adopting}
+use Rattle.record.specs.Given.{standing}
 use Rattle.record.specs.declared.Record.{Record}
 use Rattle.step_begins.specs.Beginning.{firstPhase, begun}
 use Rattle.step_rollbacks.specs.Rollbacks.{turned}
 use Rattle.calls.specs.Calls.{Call}
+use Rattle.demand_steps.specs.Typed.{Typed}
 use Rattle.demand_steps.proofs.Leaf.{Leaf}
 use Rattle.demand_steps.proofs.Leaf.Goes.{last, more}
-use Rattle.demand_steps.proofs.Leaf.Leaf.{kept, began, structureAsked, updateEnded, updateAsked, rollbackEnded, turnedEmpty, turnedAsked, waited, went, updateTaken, undoTaken, committed, recovered, restored}
+use Rattle.demand_steps.proofs.Leaf.Leaf.{kept, began, structureAsked, updateEnded, updateAsked, rollbackEnded, turnedEmpty, turnedAsked, waited, went, updateTaken, undoTaken, committed, recovered, restored, refreshed}
 use Rattle.demand_steps.proofs.Facts.{Stage, Whole}
 use Rattle.demand_steps.proofs.Facts.Stage.{flat, before}
 use Rattle.demand_steps.proofs.Facts.Calm.{on}
 use Rattle.demand_steps.proofs.Moves.{choice, turn, least-min, inBatch, inUndo, raised, turnedNone, turnedSome, lowered, allTried}
 use Rattle.demand_steps.proofs.Tickets.{onStructure, onUpdate, onRollback, ended}
-use Rattle.demand_steps.proofs.Calming.{busy, quietly, hush, room, range}
+use Rattle.demand_steps.proofs.Calming.{busy, quietly, hush, room, range, raises}
 use Rattle.demand_steps.proofs.Advancing.{advances, idles}
 
 first : (structural : Bool) {n : ℕ} → Stage (firstPhase structural) 0 0 n 0 0 false
@@ -29,8 +31,9 @@ first false = flat refl refl refl refl
 pub preserve : {r : Record} {c : Call} {x : Told} → Whole r → Leaf r c x → Whole (x .state)
 unfolding begun turned adopting
 preserve w (kept u f) = record { lengths = f (w .lengths); size = w .size; stage = w .stage; ticket = w .ticket; calm = w .calm }
-preserve w (began {structural = structural} i l f m) =
-    record { lengths = f (w .lengths); size = omega arith; stage = first structural; ticket = tt; calm = on refl (omega (arith, range (w .calm))) }
+preserve {r} w (began {structural = structural} i l k f m) =
+    let x : Typed (standing r) = range (w .calm) in
+    record { lengths = f (w .lengths); size = omega arith; stage = first structural; ticket = tt; calm = on refl (omega arith) (omega arith) }
 preserve w (structureAsked y) = record {
   lengths = w .lengths;
   size = w .size;
@@ -84,5 +87,12 @@ preserve {r} w (undoTaken t l g) = let y = onRollback w l in let u = inUndo (w .
   calm = busy (w .calm) (λ z m i. omega (arith, y .some));
 }
 preserve {r} w (committed i) = idles _ _ (omega (arith, room (w .calm) i)) (w .lengths .candidate)
-preserve {r} w (recovered i) = idles _ _ (range (w .calm)) i
-preserve {r} w restored = idles _ _ (range (w .calm)) (w .lengths .recovery)
+preserve {r} w (recovered e i) = idles _ _ (omega (arith, room (w .calm) e)) i
+preserve {r} w (restored e) = idles _ _ (omega (arith, room (w .calm) e)) (w .lengths .recovery)
+preserve {r} w (refreshed e k i) = record {
+  lengths = record { accepted = i; candidate = w .lengths .candidate; recovery = w .lengths .recovery };
+  size = w .size;
+  stage = w .stage;
+  ticket = w .ticket;
+  calm = raises (w .calm) e k;
+}

@@ -9,12 +9,14 @@ use Rattle.choice.specs.Pick.{_or_, _implies_}
 use Rattle.choice.proofs.Tests.{both, either, follows, join}
 use Rattle.phases.specs.Phases.{hasSuccessor}
 use Rattle.record.specs.Fields.{top}
+use Rattle.record.specs.Given.{standing}
 use Rattle.tickets.specs.Live.{workOf, noTicket}
 use Rattle.record.specs.declared.Record.{Record}
 use Rattle.tickets.specs.declared.Live.{Live}
 use Rattle.tickets.specs.declared.Live.the-variants.{None, Structure, Update, Rollback}
 use Rattle.wholeness.specs.Whole.{whole, lengthsFit, stagedFits, forwardFits, backFits, restoringFits, liveFits}
 use Rattle.wholeness.proofs.Facts.{Parts, parts, Counts, counts-of}
+use Rattle.demand_steps.specs.Typed.{Typed}
 use Rattle.demand_steps.proofs.Leaf.{Apart, Lengths}
 use Rattle.demand_steps.proofs.Classify.{updates-of}
 use Rattle.demand_steps.proofs.Facts.{Ahead, Behind, Turned, Stage, Tick, Calm, Whole, tests, byCase}
@@ -104,16 +106,16 @@ noTicket-of (Structure t) e = absurd (omega tests)
 noTicket-of (Update t) e = absurd (omega tests)
 noTicket-of (Rollback t) e = absurd (omega tests)
 
-calm-of : (s : Bool) (v p n : ℕ) (l : Live) → v ≤ top → stagedFits s v p n l ≡ true → Calm s v p n l
+calm-of : (s : Bool) (v c p n : ℕ) (l : Live) → v ≤ top → c ≤ top → stagedFits s v c p n l ≡ true → Calm s v c p n l
 unfolding stagedFits _or_ _implies_
-calm-of true v p n l m h = on refl (ltb-true _ _ (both h .0))
-calm-of false v p n l m h = let x = both (both h .1) in let y = both (x .0) in off refl m (eqb-true _ _ (y .0)) (eqb-true _ _ (y .1)) (noTicket-of l (x .1))
+calm-of true v c p n l m k h = let x = both (both h .0) in on refl (ltb-true _ _ (x .0)) (ltb-true _ _ (x .1))
+calm-of false v c p n l m k h = let x = both (both h .1) in let y = both (x .0) in off refl m k (eqb-true _ _ (y .0)) (eqb-true _ _ (y .1)) (noTicket-of l (x .1))
 
 lengths-of : (a c o : ℕ) → lengthsFit a c o ≡ true → Lengths a c o
 unfolding lengthsFit
 lengths-of a c o h = let x = both h in let y = both (x .0) in record { accepted = leb-true _ _ (y .0); candidate = leb-true _ _ (y .1); recovery = leb-true _ _ (x .1) }
 
-pub whole-facts : (r : Record) → r .revision ≤ top → whole r ≡ true → Whole r
+pub whole-facts : (r : Record) → Typed (standing r) → whole r ≡ true → Whole r
 whole-facts r m h =
     let x : Parts r = parts h in
     let s : Counts (r .entries) (r .applied) (r .attempted) = counts-of _ _ _ (x .counts) in
@@ -122,5 +124,5 @@ whole-facts r m h =
       size = s;
       stage = stage-of (leb-true _ _ (x .phase)) (ahead-of _ _ (x .forward)) (behind-of _ _ (x .back)) (turned-of _ _ _ _ _ (x .restoring)) s;
       ticket = tick-of _ _ _ _ _ _ _ (x .live);
-      calm = calm-of _ _ _ _ _ m (x .staging);
+      calm = calm-of _ _ _ _ _ _ (m .revision) (m .replacements) (x .staging);
     }

@@ -6,12 +6,11 @@ use mathlib.Core.List.{List, []}
 use Rattle.choice.proofs.Tests.{never}
 use Rattle.answers.specs.Classes.{successful}
 use Rattle.record.specs.Answers.{Told}
-use Rattle.record.specs.Given.{standing}
 use Rattle.record.specs.declared.Record.{Record}
 use Rattle.gates.specs.Gates.{Bar, barring, longSnapshot}
 use Rattle.step_opens.specs.Opening.{opening}
 use Rattle.step_ends.specs.Ending.{afterCommit, commitBars, commitOwn}
-use Rattle.step_recoveries.specs.Recovering.{recoverBars, recoverOwn, recoverRetainedOwn}
+use Rattle.step_recoveries.specs.Recovering.{afterRecovery, recoverBars, recoverOwn, recoverRetainedOwn}
 use Rattle.calls.specs.Calls.{Call, step}
 use Rattle.calls.specs.Calls.Call.{commit, recover, recoverRetained}
 use Rattle.demand_steps.proofs.Own.{own, row, answers}
@@ -28,10 +27,10 @@ module _ (r : Record) where
   unfolding own commitOwn
   commit-opens = ends commit (commitBars r) _ refl refl
 
-  pub recover-opens : (n : ℕ) → successful (step r (recover n) .class) ≡ true → step r (recover n) .state ≡ opening (standing r) n
+  pub recover-opens : (n : ℕ) → successful (step r (recover n) .class) ≡ true → step r (recover n) .state ≡ opening (afterRecovery r) n
   unfolding own recoverOwn
   recover-opens n = ends (recover n) (recoverBars r (longSnapshot n [])) _ refl refl
 
-  pub recover-retained-opens : successful (step r recoverRetained .class) ≡ true → step r recoverRetained .state ≡ opening (standing r) (r .recovery)
+  pub recover-retained-opens : successful (step r recoverRetained .class) ≡ true → step r recoverRetained .state ≡ opening (afterRecovery r) (r .recovery)
   unfolding own recoverRetainedOwn
   recover-retained-opens = ends recoverRetained (recoverBars r []) _ refl refl

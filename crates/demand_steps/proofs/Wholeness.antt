@@ -43,10 +43,10 @@ tick-test (Update t) s v p n a k m x =
 tick-test (Rollback t) s v p n a k m x =
     join (join (join (join (eq-eqb _ _ (x .number)) (le-leb _ _ (x .real))) refl) refl) (join (x .behind) (lt-ltb _ _ (x .some)))
 
-calm-test : (s : Bool) (v p n : ℕ) (l : Live) → Calm s v p n l → stagedFits s v p n l ≡ true
+calm-test : (s : Bool) (v c p n : ℕ) (l : Live) → Calm s v c p n l → stagedFits s v c p n l ≡ true
 unfolding stagedFits _or_ _implies_
-calm-test s v p n l (on e h) = rw e (join (lt-ltb _ _ h) refl)
-calm-test s v p n l (off e m z q x) = rw (e, x) (join refl (join (join (eq-eqb _ _ z) (eq-eqb _ _ q)) refl))
+calm-test s v c p n l (on e h g) = rw e (join (join (lt-ltb _ _ h) (lt-ltb _ _ g)) refl)
+calm-test s v c p n l (off e m k z q x) = rw (e, x) (join refl (join (join (eq-eqb _ _ z) (eq-eqb _ _ q)) refl))
 
 pub whole-test : {r : Record} → Whole r → whole r ≡ true
 unfolding whole lengthsFit countsFit
@@ -57,7 +57,7 @@ whole-test {r} w =
     join (join (join (join (join (join (join
     (join (join (le-leb _ _ (l .accepted)) (le-leb _ _ (l .candidate))) (le-leb _ _ (l .recovery)))
     (join (join (join (le-leb _ _ (s .few)) (le-leb _ _ (s .order))) (le-leb _ _ (s .near))) (le-leb _ _ (s .inside))))
-    (calm-test _ _ _ _ _ (w .calm)))
+    (calm-test _ _ _ _ _ _ (w .calm)))
     (le-leb _ _ (x .bound)))
     (forward-test _ _ (x .ahead)))
     (back-test _ _ (x .bound) (x .behind)))

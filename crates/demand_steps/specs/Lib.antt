@@ -1,1 +1,2 @@
 pub mod Watching
+pub mod Typed

@@ -30,8 +30,9 @@ pub data Item : Type 0 where
   unknown : Item
 
 pub record Watch : Type 0 where
-  -- "the successful commits"
+  -- "the successful commits"; request 3: the successful commits, recoveries and refreshes
   pub commits : ℕ
+  pub replacements : ℕ
   -- a transaction is staged, whether it is structural, and its number of updates
   pub running : Bool
   pub structural : Bool
@@ -47,9 +48,10 @@ pub record Watch : Type 0 where
   pub undone : List Item
 
 -- a transaction begins, or ends: all counts start anew, and the last ticket stays the last
-abbrev pub fresh : ℕ → Bool → Bool → ℕ → Watch → Watch
-fresh commits running structural size w = record {
+abbrev pub fresh : ℕ → ℕ → Bool → Bool → ℕ → Watch → Watch
+fresh commits replacements running structural size w = record {
   commits = commits;
+  replacements = replacements;
   running = running;
   structural = structural;
   size = size;
@@ -61,10 +63,27 @@ fresh commits running structural size w = record {
   undone = [];
 }
 
+-- settings are replaced with nothing staged
+abbrev pub refreshes : Said → Watch → Watch
+refreshes a w = pick (successful (a .class)) (record {
+  commits = w .commits;
+  replacements = w .replacements + 1;
+  running = w .running;
+  structural = w .structural;
+  size = w .size;
+  turned = w .turned;
+  started = w .started;
+  ticket = w .ticket;
+  item = w .item;
+  done = w .done;
+  undone = w .undone;
+}) w
+
 -- it goes on: a rollback is granted, an update started, or work reported done
 abbrev pub goes : Bool → ℕ → List Item → List Item → Watch → Watch
 goes turned started done undone w = record {
   commits = w .commits;
+  replacements = w .replacements;
   running = w .running;
   structural = w .structural;
   size = w .size;
@@ -86,6 +105,7 @@ lists done undone w = goes (w .turned) (w .started) done undone w
 abbrev pub gives : (ℕ → Item) → Said → Watch → Watch
 gives for a w = record {
   commits = w .commits;
+  replacements = w .replacements;
   running = w .running;
   structural = w .structural;
   size = w .size;
@@ -135,10 +155,10 @@ hearsReport of ticket (rests answer) a w = w
 hearsReport of ticket works a w = pick (taken (a .class)) (notes (itemOf of ticket w) w) w
 
 abbrev pub begins : Bool → ℕ → Said → Watch → Watch
-begins structural size a w = pick (successful (a .class)) (fresh (w .commits) true structural size w) w
+begins structural size a w = pick (successful (a .class)) (fresh (w .commits) (w .replacements) true structural size w) w
 
 abbrev pub ends : ℕ → Said → Watch → Watch
-ends commits a w = pick (successful (a .class)) (fresh commits false false 0 w) w
+ends commits a w = pick (successful (a .class)) (fresh commits (w .replacements + 1) false false 0 w) w
 
 unfoldable pub sees : Watch → Call → Said → Watch
 sees w (begin structural b) a = begins structural (b .actions) a w
@@ -150,7 +170,7 @@ sees w (edit c o) a = w
 sees w commit a = ends (w .commits + 1) a w
 sees w (recover n) a = ends (w .commits) a w
 sees w recoverRetained a = ends (w .commits) a w
-sees w (refresh n) a = w
+sees w (refresh n) a = refreshes a w
 sees w (stamp domain) a = w
 sees w (check domain s) a = w
 
@@ -161,4 +181,4 @@ watch w (h ∷ hs) = watch (sees w (h .call) (h .answer)) hs
 
 -- and at its start from an opening
 unfoldable pub unwatched : Watch
-unwatched = record { commits = 0; running = false; structural = false; size = 0; turned = false; started = 0; ticket = 0; item = unknown; done = []; undone = [] }
+unwatched = record { commits = 0; replacements = 0; running = false; structural = false; size = 0; turned = false; started = 0; ticket = 0; item = unknown; done = []; undone = [] }

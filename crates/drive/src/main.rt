@@ -20,14 +20,14 @@ fn print_usage(to: i32) {
         b"usage: drive < SCRIPT    plays a script, a command to a line, and writes the answers
        drive help        says this
 A payload P is LENGTH:SEED, words W are COUNT:SEED; an area B is a, c, r, x, t, l, g, s or f; # starts a comment.
-  lend B N | put B INDEX VALUE | fill P | record and its 15 numbers | tails COUNT | show
-  open REVISION SERIAL P | begin P P W | begin-structural P P W | edit P P
+  lend B N | put B INDEX VALUE | fill P | record and its 16 numbers | tails COUNT | show
+  open REVISION SERIAL REPLACEMENTS P | begin P P W | begin-structural P P W | edit P P
   ask-structure | ask-update | ask-rollback | report-structure TICKET OUTCOME CODE P P
   report-update TICKET OUTCOME CODE PAYLOAD | report-rollback TICKET OUTCOME CODE PAYLOAD
   commit | recover LENGTH | recover-retained | refresh LENGTH
-  stamp DOMAIN | check DOMAIN D R | link ID D | initialize ID | cancel ID
+  stamp DOMAIN | check DOMAIN D R C | link ID D | initialize ID | cancel ID
   add-tail DEVICE INODE OFFSET | remove-tail DEVICE INODE
-  find-tail DEVICE INODE SIZE DOMAIN D R | move-tail DEVICE INODE OFFSET DOMAIN D R
+  find-tail DEVICE INODE SIZE DOMAIN D R C | move-tail DEVICE INODE OFFSET DOMAIN D R C
   find-struct and move-struct, with the same words
 ",
     );

@@ -1,6 +1,7 @@
 // For callers in C or Rust, under names of C's: copying and exchanging lent bytes, as `copies` and `areas` have it, and finding and moving
 // in a tail table, as `tails` has it. A slice crosses as the address of its first element and its length; numbers cross as they are, so
-// that a tail call is given the accepted revision and the stamp's: the settings are idle, in the domain 0.
+// that a tail call is given the revision and the count of replacements of the settings, and the stamp's: the settings are idle, in the
+// domain 0.
 use record::Opening;
 use step_stamps::SaveStamp;
 use tail_answers::Finding;
@@ -32,12 +33,14 @@ pub extern "C" fn edge_exchange(a: &mut [u8], b: &mut [u8])
     areas::exchange(a, b);
 }
 
-fn claim(accepted: u64, stamped: u64) -> Claim
-    ensures { λ c. ⌜ c ≡ claimAt accepted stamped ⌝ }
+// The settings' revision and count of replacements, and then the stamp's.
+fn claim(revision: u64, replacements: u64, stamped: u64, counted: u64) -> Claim
+    ensures { λ c. ⌜ c ≡ claimAt revision replacements stamped counted ⌝ }
 {
     let opening = Opening {
-        revision: accepted,
+        revision: revision,
         serial: 0,
+        replacements: replacements,
     };
     Claim {
         record: opening.opened(0),
@@ -45,6 +48,7 @@ fn claim(accepted: u64, stamped: u64) -> Claim
         stamp: SaveStamp {
             domain: 0,
             revision: stamped,
+            replacements: counted,
         },
     }
 }
@@ -57,16 +61,19 @@ pub extern "C" fn edge_find_tail(
     device: u64,
     inode: u64,
     size: u64,
-    accepted: u64,
+    revision: u64,
+    replacements: u64,
     stamped: u64,
+    counted: u64,
 ) -> u64
-    ensures { λ r. ⌜ r ≡ offsetOr (findOf (now (words .entry)) used (fileAt device inode) size (claimAt accepted stamped)) ⌝ }
+    ensures { λ r. ⌜ r ≡ offsetOr (findOf (now (words .entry)) used (fileAt device inode) size (claimAt revision replacements stamped counted)) ⌝ }
 {
     let file = File {
         device: device,
         inode: inode,
     };
-    match tails::find(words, used, file, size, claim(accepted, stamped)) {
+    let by = claim(revision, replacements, stamped, counted);
+    match tails::find(words, used, file, size, by) {
         Finding::Same(offset) => offset,
         Finding::Shrunk => u64::MAX,
         Finding::Unknown => u64::MAX,
@@ -82,17 +89,20 @@ pub extern "C" fn edge_move_tail(
     device: u64,
     inode: u64,
     offset: u64,
-    accepted: u64,
+    revision: u64,
+    replacements: u64,
     stamped: u64,
+    counted: u64,
 ) -> u64
-    ensures { λ r. ⌜ r ∷ now (words .exit) ≡ saysVerdict (moveOf (now (words .entry)) used (tailOf device inode offset) (claimAt accepted stamped) .answer) .number ∷ moveOf (now (words .entry)) used (tailOf device inode offset) (claimAt accepted stamped) .words ⌝ }
+    ensures { λ r. ⌜ r ∷ now (words .exit) ≡ saysVerdict (moveOf (now (words .entry)) used (tailOf device inode offset) (claimAt revision replacements stamped counted) .answer) .number ∷ moveOf (now (words .entry)) used (tailOf device inode offset) (claimAt revision replacements stamped counted) .words ⌝ }
 {
     let tail = Tail {
         device: device,
         inode: inode,
         offset: offset,
     };
-    match tails::move_offset(words, used, tail, claim(accepted, stamped)) {
+    let by = claim(revision, replacements, stamped, counted);
+    match tails::move_offset(words, used, tail, by) {
         Verdict::Done => 0,
         Verdict::Refused(why) => why.number(),
     }

@@ -14,6 +14,7 @@ abbrev pub withTicket : ℕ → Live → Record → Record
 withTicket serial live r = record {
   revision = r .revision;
   serial = serial;
+  replacements = r .replacements;
   accepted = r .accepted;
   candidate = r .candidate;
   recovery = r .recovery;
@@ -33,6 +34,7 @@ abbrev pub withPlace : ℕ → ℕ → ℕ → Record → Record
 withPlace phase forward back r = record {
   revision = r .revision;
   serial = r .serial;
+  replacements = r .replacements;
   accepted = r .accepted;
   candidate = r .candidate;
   recovery = r .recovery;
@@ -52,6 +54,7 @@ abbrev pub withBatch : ℕ → ℕ → ℕ → Bool → Record → Record
 withBatch entries applied attempted restoring r = record {
   revision = r .revision;
   serial = r .serial;
+  replacements = r .replacements;
   accepted = r .accepted;
   candidate = r .candidate;
   recovery = r .recovery;
@@ -71,6 +74,7 @@ abbrev pub withStaged : Bool → Record → Record
 withStaged staged r = record {
   revision = r .revision;
   serial = r .serial;
+  replacements = r .replacements;
   accepted = r .accepted;
   candidate = r .candidate;
   recovery = r .recovery;
@@ -90,9 +94,30 @@ abbrev pub withLengths : ℕ → ℕ → ℕ → Record → Record
 withLengths accepted candidate recovery r = record {
   revision = r .revision;
   serial = r .serial;
+  replacements = r .replacements;
   accepted = accepted;
   candidate = candidate;
   recovery = recovery;
+  staged = r .staged;
+  phase = r .phase;
+  forward = r .forward;
+  back = r .back;
+  entries = r .entries;
+  applied = r .applied;
+  attempted = r .attempted;
+  restoring = r .restoring;
+  live = r .live;
+}
+
+-- the count of replacements
+abbrev pub withReplacements : ℕ → Record → Record
+withReplacements replacements r = record {
+  revision = r .revision;
+  serial = r .serial;
+  replacements = replacements;
+  accepted = r .accepted;
+  candidate = r .candidate;
+  recovery = r .recovery;
   staged = r .staged;
   phase = r .phase;
   forward = r .forward;

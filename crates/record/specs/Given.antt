@@ -13,18 +13,19 @@ use Rattle.answers.specs.declared.Answer.the-variants as A
 use Rattle.record.specs.declared.Outcome.{Outcome}
 use Rattle.record.specs.declared.Outcome.the-variants.{Waiting, Failed, Done}
 
--- "revision and serial are given": all else of an opening is 0
-abbrev pub at : ℕ → ℕ → Opening
-at revision serial = record { revision = revision; serial = serial }
+-- "revision and serial are given"; request 3: the count of replacements, "open takes it"
+abbrev pub at : ℕ → ℕ → ℕ → Opening
+at revision serial replacements = record { revision = revision; serial = serial; replacements = replacements }
 
 abbrev pub start : Opening
-start = at 0 0
+start = at 0 0 0
 
 -- "accepted payload copied, all else as after a commit": idle, counts 0, not restoring, candidate and recovery lengths 0
 unfoldable pub opening : Opening → ℕ → Record
 opening given accepted = record {
   revision = given .revision;
   serial = given .serial;
+  replacements = given .replacements;
   accepted = accepted;
   candidate = 0;
   recovery = 0;
@@ -41,7 +42,7 @@ opening given accepted = record {
 
 -- what an opening is given that goes on from a record
 abbrev pub standing : Record → Opening
-standing r = record { revision = r .revision; serial = r .serial }
+standing r = at (r .revision) (r .serial) (r .replacements)
 
 -- "both payloads and the pairs", by their lengths and their number
 abbrev pub beginning : ℕ → ℕ → ℕ → Beginning

@@ -7,14 +7,15 @@ ghost use mathlib.Core.Path.{_≡_};
 ghost use Rattle.record.specs.Fields.{withTicket, adopting};
 ghost use Rattle.answers.specs.Classes.{refused};
 ghost use Rattle.record.specs.Answers.{answer, refuse, tells};
-ghost use Rattle.record.specs.Given.{ofSizes, start, opening, standing};
+ghost use Rattle.record.specs.Given.{ofSizes, start, opening};
 
-// The largest u64: no revision is committed over it, and no serial is given past it.
+// The largest u64: no revision is committed over it, no serial is given past it, and no settings are replaced past it.
 pub const MAX: u64 = 18446744073709551615;
 
 pub struct Record {
     pub revision: u64,
     pub serial: u64,
+    pub replacements: u64,
     pub accepted: usize,
     pub candidate: usize,
     pub recovery: usize,
@@ -39,6 +40,7 @@ pub struct Findings {
 pub struct Opening {
     pub revision: u64,
     pub serial: u64,
+    pub replacements: u64,
 }
 
 // What a begin is given besides its flag: the lengths of both payloads, and the number of actions.
@@ -87,6 +89,7 @@ impl Opening {
         Opening {
             revision: 0,
             serial: 0,
+            replacements: 0,
         }
     }
 
@@ -97,6 +100,7 @@ impl Opening {
         Record {
             revision: self.revision,
             serial: self.serial,
+            replacements: self.replacements,
             accepted: accepted,
             candidate: 0,
             recovery: 0,
@@ -116,16 +120,6 @@ impl Opening {
 }
 
 impl Record {
-    // What an opening is given that goes on from here.
-    pub fn standing(self) -> Opening
-        ensures { λ o. ⌜ o ≡ standing self ⌝ }
-    {
-        Opening {
-            revision: self.revision,
-            serial: self.serial,
-        }
-    }
-
     // The same record with another serial and live ticket.
     pub fn with_ticket(self, serial: u64, live: Live) -> Record
         ensures { λ r. ⌜ r ≡ withTicket serial live self ⌝ }
@@ -134,6 +128,7 @@ impl Record {
         Record {
             revision: self.revision,
             serial: serial,
+            replacements: self.replacements,
             accepted: self.accepted,
             candidate: self.candidate,
             recovery: self.recovery,

@@ -1,5 +1,5 @@
--- The record whose numbers a row has. The order and the ranges are those of the driver's page, "record R S A C V G P F B N D T E K M".
--- Assumes nothing.
+-- The record whose numbers a row has. The order and the ranges are those of the driver's page, "record R S A C V G P F B N D T E K M",
+-- with request 3's count at its end. Assumes nothing.
 use Prim.Native.Nat.{ℕ}
 use mathlib.Core.Bool.{Bool, not}
 use mathlib.Core.List.{List}
@@ -45,6 +45,7 @@ made row = record {
   attempted = at row 11;
   restoring = eqb (at row 12) 1;
   live = liveOf (at row 13) (at row 14);
+  replacements = at row 15;
 }
 
 -- a row has as many numbers as a record has fields

@@ -71,6 +71,7 @@ pub fn record_of(row: [u64; FIELDS]) -> Row
             attempted: row[11] as u32,
             restoring: row[12] == 1,
             live: live,
+            replacements: row[15],
         });
     }
     Row::Misfit

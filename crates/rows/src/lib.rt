@@ -4,7 +4,7 @@ ghost use mathlib.Core.Path.{_≡_};
 ghost use Rattle.rows.specs.Rows.{rowOf};
 
 // How many numbers a record has.
-pub const FIELDS: usize = 15;
+pub const FIELDS: usize = 16;
 
 // The largest number of 8 bits, and of 32.
 pub const TOP8: u64 = u8::MAX as u64;
@@ -32,5 +32,6 @@ pub fn numbers(r: Record) -> [u64; FIELDS]
         r.restoring as u64,
         live.work() as u64,
         live.number(),
+        r.replacements,
     ]
 }

@@ -29,9 +29,9 @@ templates =
     "llend B N" ∷
     "pput B N N" ∷
     "ffill L:S" ∷
-    "=record N N N N N F U U U D D D F K N" ∷
+    "=record N N N N N F U U U D D D F K N N" ∷
     "ttails N" ∷
-    "oopen N N L:S" ∷
+    "oopen N N N L:S" ∷
     "bbegin L:S L:S C:S" ∷
     "Bbegin-structural L:S L:S C:S" ∷
     "eedit L:S L:S" ∷
@@ -46,16 +46,16 @@ templates =
     "Rrecover-retained" ∷
     "nrefresh N" ∷
     "sstamp N" ∷
-    "?check N N N" ∷
+    "?check N N N N" ∷
     "Llink N F" ∷
     "Iinitialize N" ∷
     "Ccancel N" ∷
     "+add-tail N N N" ∷
     "-remove-tail N N" ∷
-    "Ffind-tail N N N N N N" ∷
-    "Mmove-tail N N N N N N" ∷
-    "Gfind-struct N N N N N N" ∷
-    "Nmove-struct N N N N N N" ∷ [])
+    "Ffind-tail N N N N N N N" ∷
+    "Mmove-tail N N N N N N N" ∷
+    "Gfind-struct N N N N N N N" ∷
+    "Nmove-struct N N N N N N N" ∷ [])
 
 -- "a line of no bytes is empty, and a line whose first byte is `#` is a comment whatever follows"; one of "more than 1,000 bytes" is no
 -- command, nor one that fits no template. Of any other line nothing is said: `found` is the answer itself.

@@ -28,9 +28,9 @@ pub fn read(line: &[u8]) -> Command
 llend B N
 pput B N N
 ffill L:S
-=record N N N N N F U U U D D D F K N
+=record N N N N N F U U U D D D F K N N
 ttails N
-oopen N N L:S
+oopen N N N L:S
 bbegin L:S L:S C:S
 Bbegin-structural L:S L:S C:S
 eedit L:S L:S
@@ -45,16 +45,16 @@ rrecover N
 Rrecover-retained
 nrefresh N
 sstamp N
-?check N N N
+?check N N N N
 Llink N F
 Iinitialize N
 Ccancel N
 +add-tail N N N
 -remove-tail N N
-Ffind-tail N N N N N N
-Mmove-tail N N N N N N
-Gfind-struct N N N N N N
-Nmove-struct N N N N N N
+Ffind-tail N N N N N N N
+Mmove-tail N N N N N N N
+Gfind-struct N N N N N N N
+Nmove-struct N N N N N N N
 ",
     );
     if !found.found {

@@ -18,10 +18,10 @@ pub fn of_stamp(stamping: Stamping) -> Reply
             let number = Answer::Done(Was::Nothing).number();
             Reply {
                 number: number,
-                count: 3,
+                count: 4,
                 first: stamp.domain,
                 second: stamp.revision,
-                third: 0,
+                third: stamp.replacements,
             }
         }
         Stamping::Refused(why) => of_answer(Answer::Refused(why)),

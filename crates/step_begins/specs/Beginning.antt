@@ -3,7 +3,7 @@ use Prim.Native.Nat.{ℕ}
 use mathlib.Core.Bool.{Bool, true, false, not}
 use lib.Dec.{eqb, ltb}
 use mathlib.Core.List.{List, [], _∷_}
-use Rattle.choice.specs.Pick.{pick}
+use Rattle.choice.specs.Pick.{pick, _or_}
 use Rattle.phases.specs.Phases.{none, remove}
 use Rattle.batch.specs.Batch.{limit}
 use Rattle.record.specs.Fields.{top}
@@ -26,11 +26,12 @@ begun phase b r =
     spent (withPlace phase 0 0 (withBatch (b .actions) 0 0 false
     (withStaged true (withLengths (r .accepted) (b .candidate) (b .recovery) r))))
 
--- "Begin, begin structural: 1, 3, 8, 9.", with 14 and 15 in the place of 8
+-- "Begin, begin structural: 1, 3, 8, 9.", with 14 and 15 in the place of 8; request 3: "Capacity when that count is at the u64 maximum,
+-- after Pending"
 abbrev pub beginBars : Record → Beginning → List Bar
 beginBars r b =
     Pending whenever r .staged
-    ∷ Capacity whenever eqb (r .revision) top
+    ∷ Capacity whenever (eqb (r .revision) top or eqb (r .replacements) top)
     ∷ longPayloads (b .candidate) (b .recovery)
     (TooMany whenever ltb limit (b .actions)
     ∷ [])

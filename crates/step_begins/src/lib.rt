@@ -51,7 +51,10 @@ fn begin_gate(r: Record, found: Findings, given: Beginning) -> Gate
 {
     gates::admit(r, found)
         .bar(r.staged, Refusal::Pending)
-        .bar(r.revision == record::MAX, Refusal::Capacity)
+        .bar(
+            (r.revision == record::MAX) | (r.replacements == record::MAX),
+            Refusal::Capacity,
+        )
         .bar_payloads(given.candidate, given.recovery)
         .bar(batch::LIMIT < given.actions, Refusal::TooMany)
 }

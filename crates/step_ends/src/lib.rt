@@ -36,6 +36,7 @@ pub fn commit(r: Record, found: Findings) -> Stepped
     let given = Opening {
         revision: r.revision + 1,
         serial: r.serial,
+        replacements: r.replacements + 1,
     };
     given.opened(r.candidate).answering(Answer::Done(was))
 }
@@ -46,6 +47,7 @@ fn refresh_gate(r: Record, found: Findings, length: usize) -> Gate
 {
     gates::admit(r, found)
         .bar(r.staged, Refusal::Pending)
+        .bar(r.replacements == record::MAX, Refusal::Capacity)
         .bar_snapshot(length)
 }
 
@@ -59,5 +61,6 @@ pub fn refresh(r: Record, found: Findings, length: usize) -> Stepped
     }
     let mut fresh = r;
     fresh.accepted = length;
+    fresh.replacements = r.replacements + 1;
     fresh.answering(Answer::Done(Was::One(r.accepted)))
 }

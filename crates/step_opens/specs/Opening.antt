@@ -12,7 +12,7 @@ use Rattle.answers.specs.declared.Answer.the-variants.{Done}
 use Rattle.answers.specs.declared.Was.the-variants.{Nothing}
 use Rattle.answers.specs.declared.Refusal.the-variants.{BadArea}
 
--- "the record of an opening at 0, 0 with an empty payload"
+-- "the record of an opening at 0, 0 with an empty payload"; its count of replacements is 0
 abbrev pub unopened : Record
 unopened = opening start 0
 

@@ -5,13 +5,17 @@ use answers::Was;
 use gates::Gate;
 use phases::Phase;
 use record::Findings;
+use record::Opening;
 use record::Record;
 use record::Stepped;
 ghost use mathlib.Core.List.{[]};
 ghost use mathlib.Core.Path.{_≡_};
+ghost use Prim.Native.Nat.{_<_};
+ghost use Rattle.record.specs.Fields.{top};
 ghost use Rattle.record.specs.Answers.{tells};
 ghost use Rattle.step_recoveries.specs.Recovering.{unrestored, recoveredTo, recoverBars, recoverStep, recoverRetainedStep};
 ghost use Rattle.gates.specs.Gates.{gateOf, gated, through};
+ghost use Rattle.gates.specs.declared.Gate.the-variants.{Open};
 
 // Whether a recovery comes too early: entries are left to undo, or the way back is not at its end.
 fn unrestored(r: Record) -> bool
@@ -29,15 +33,21 @@ fn recover_gate(r: Record, found: Findings) -> Gate
         .bar(unrestored(r), Refusal::NotReady)
 }
 
-// What both recoveries do behind their gates: a payload of a length becomes the accepted one.
+// What both recoveries do behind their gates: a payload of a length becomes the accepted one. Behind them the count has room.
 fn recovered(r: Record, gate: Gate, accepted: usize) -> Stepped
+    requires { ⌜ (gate ≡ Open → r .replacements < top) ⌝ }
     ensures { λ s. ⌜ tells s ≡ gated gate r (recoveredTo accepted r) ⌝ }
 {
     if let Gate::Shut(why) = gate {
         return r.refuse(why);
     }
     let was = Was::Three(r.accepted, r.candidate, r.recovery);
-    r.standing().opened(accepted).answering(Answer::Done(was))
+    let given = Opening {
+        revision: r.revision,
+        serial: r.serial,
+        replacements: r.replacements + 1,
+    };
+    given.opened(accepted).answering(Answer::Done(was))
 }
 
 // A snapshot of a length, in the exchange area, becomes the accepted payload.

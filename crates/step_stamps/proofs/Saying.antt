@@ -16,9 +16,9 @@ use Rattle.step_stamps.specs.declared.Checked.the-variants as C
 
 -- the answer again, from its class and its values; no step answer is one
 stampingOf : Class → List ℕ → Stamping
-stampingOf performed v = S.Taken (record { domain = getD v 0 0; revision = getD v 1 0 })
+stampingOf performed v = S.Taken (record { domain = getD v 0 0; revision = getD v 1 0; replacements = getD v 2 0 })
 stampingOf (refusal w) v = S.Refused w
-stampingOf (stepping s) v = S.Taken (record { domain = 0; revision = 0 })
+stampingOf (stepping s) v = S.Taken (record { domain = 0; revision = 0; replacements = 0 })
 
 stamping-back : (a : Stamping) → stampingOf (saysStamping a .class) (saysStamping a .values) ≡ a
 unfolding stampingOf

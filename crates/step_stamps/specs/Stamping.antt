@@ -15,9 +15,9 @@ use Rattle.step_stamps.specs.declared.Stamping.the-variants as S
 use Rattle.step_stamps.specs.declared.Checked.{Checked}
 use Rattle.step_stamps.specs.declared.Checked.the-variants as C
 
--- the number and values of each case: a stamp's two numbers; "yes, no or 7", yes being 1 and no 0
+-- the number and values of each case: a stamp's three numbers; "yes, no or 7", yes being 1 and no 0
 abbrev pub saysStamping : Stamping → Said
-saysStamping (S.Taken s) = said performed (s .domain ∷ s .revision ∷ [])
+saysStamping (S.Taken s) = said performed (s .domain ∷ s .revision ∷ s .replacements ∷ [])
 saysStamping (S.Refused w) = said (refusal w) []
 
 abbrev pub saysChecked : Checked → Said
@@ -25,9 +25,9 @@ saysChecked C.Passes = said performed (1 ∷ [])
 saysChecked C.Fails = said performed (0 ∷ [])
 saysChecked (C.Refused w) = said (refusal w) []
 
--- "Stamp is (domain, revision), refused 1."
+-- "Stamp is (domain, revision), refused 1."; request 3: "the stamp carries it as a third number"
 abbrev pub stampOf : ℕ → Record → SaveStamp
-stampOf domain r = record { domain = domain; revision = r .revision }
+stampOf domain r = record { domain = domain; revision = r .revision; replacements = r .replacements }
 
 unfoldable pub stampStep : Record → ℕ → Said
 stampStep r domain =
@@ -35,9 +35,10 @@ stampStep r domain =
     (pick (r .staged) (saysStamping (S.Refused why.Pending))
     (saysStamping (S.Taken (stampOf domain r))))
 
--- "It passes exactly if not staged and both numbers agree."
+-- "It passes exactly if not staged and both numbers agree.", with the third
 unfoldable pub passes : Record → ℕ → SaveStamp → Bool
-passes r domain stamp = not (r .staged) and eqb domain (stamp .domain) and eqb (r .revision) (stamp .revision)
+passes r domain stamp =
+    not (r .staged) and eqb domain (stamp .domain) and eqb (r .revision) (stamp .revision) and eqb (r .replacements) (stamp .replacements)
 
 unfoldable pub checkStep : Record → ℕ → SaveStamp → Said
 checkStep r domain stamp =

@@ -1,13 +1,14 @@
-// Stamps: a plan reviewed at one revision must not be saved over another.
+// Stamps: a plan reviewed under some settings must not be saved over others.
 use answers::Refusal;
 use record::Record;
 ghost use mathlib.Core.Path.{_≡_};
 ghost use Rattle.step_stamps.specs.Stamping.{saysStamping, saysChecked, stampStep, checkStep};
 
-// A save plan's stamp: which domain it was reviewed in, and at which revision.
+// A save plan's stamp: which domain it was reviewed in, at which revision, and after how many replacements of the settings.
 pub struct SaveStamp {
     pub domain: u64,
     pub revision: u64,
+    pub replacements: u64,
 }
 
 // A stamp, or why there is none.
@@ -36,6 +37,7 @@ pub fn stamp(r: Record, domain: u64) -> Stamping
         Stamping::Taken(SaveStamp {
             domain: domain,
             revision: r.revision,
+            replacements: r.replacements,
         })
     }
 }
@@ -47,7 +49,11 @@ pub fn check(r: Record, domain: u64, stamp: SaveStamp) -> Checked
     if !wholeness::whole(r) {
         return Checked::Refused(Refusal::Damaged);
     }
-    if !r.staged & (domain == stamp.domain) & (r.revision == stamp.revision) {
+    if !r.staged
+        & (domain == stamp.domain)
+        & (r.revision == stamp.revision)
+        & (r.replacements == stamp.replacements)
+    {
         Checked::Passes
     } else {
         Checked::Fails

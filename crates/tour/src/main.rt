@@ -1,6 +1,7 @@
 // The README's example, run on the proved calls. A plan is stamped at revision 7. A first reload goes through, and the stamp no
-// longer passes. The plan is stamped again at revision 8. The second action of a second reload fails: what was begun is undone,
-// the retained payload is recovered, and the stamp passes. What each line says is in tell.rt.
+// longer passes. The plan is stamped again at revision 8. The second action of a second reload fails: what was begun is undone and
+// the retained payload is recovered. The settings were replaced, so this stamp does not pass either; one that is taken now does.
+// What each line says is in tell.rt.
 mod tell;
 
 use answers::Answer;
@@ -119,6 +120,7 @@ fn main() {
     let start = Opening {
         revision: 7,
         serial: 0,
+        replacements: 0,
     };
     let old = [1u8; 40];
     let first = transaction::open(start, &mut accepted, &old);
@@ -143,5 +145,7 @@ fn main() {
         1,
     );
     ended(End::Recovery, last);
+    verdict(last.state, plan);
+    let plan = transaction::stamp(last.state, DOMAIN);
     verdict(last.state, plan);
 }

@@ -17,7 +17,7 @@ use Rattle.tickets.specs.declared.Live.{Live}
 pub record Parts (r : Record) : Type 0 where
   pub lengths : lengthsFit (r .accepted) (r .candidate) (r .recovery) ≡ true
   pub counts : countsFit (r .entries) (r .applied) (r .attempted) ≡ true
-  pub staging : stagedFits (r .staged) (r .revision) (r .phase .number) (r .entries) (r .live) ≡ true
+  pub staging : stagedFits (r .staged) (r .revision) (r .replacements) (r .phase .number) (r .entries) (r .live) ≡ true
   pub phase : leb (r .phase .number) recovered ≡ true
   pub forward : forwardFits (r .phase .number) (r .forward) ≡ true
   pub back : backFits (r .phase .number) (r .back) ≡ true
@@ -86,7 +86,7 @@ unfolding restoringFits
 restoring-all restoring p n a k h e =
     eqb-true _ _ (follows (both (both (both (both (both (both (both h .0) .0) .0) .0) .0) .0) .0) e)
 
--- a staged record's revision can be raised
-pub staged-room : (staged : Bool) (v p n : ℕ) (l : Live) → stagedFits staged v p n l ≡ true → staged ≡ true → v < top
+-- a staged record's revision can be raised, and its count of replacements
+pub staged-room : (staged : Bool) (v c p n : ℕ) (l : Live) → stagedFits staged v c p n l ≡ true → staged ≡ true → (v < top) × (c < top)
 unfolding stagedFits
-staged-room staged v p n l h e = ltb-true _ _ (follows (both h .0) e)
+staged-room staged v c p n l h e = let x = both (follows (both h .0) e) in (ltb-true _ _ (x .0), ltb-true _ _ (x .1))

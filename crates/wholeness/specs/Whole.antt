@@ -20,10 +20,11 @@ lengthsFit accepted candidate recovery = leb accepted areaSize and leb candidate
 unfoldable pub countsFit : ℕ → ℕ → ℕ → Bool
 countsFit n a k = leb n limit and leb a k and leb k (a + 1) and leb k n
 
--- "staged: revision below 18446744073709551615. Not staged: phase 0, entries 0, no live ticket"
-unfoldable pub stagedFits : Bool → ℕ → ℕ → ℕ → Live → Bool
-stagedFits staged revision p n l =
-    (staged implies ltb revision top) and (staged or (eqb p none and eqb n 0 and eqb (workOf l) noTicket))
+-- "staged: revision below 18446744073709551615. Not staged: phase 0, entries 0, no live ticket"; request 3, of the count of replacements:
+-- "a staged record at that maximum is Damaged"
+unfoldable pub stagedFits : Bool → ℕ → ℕ → ℕ → ℕ → Live → Bool
+stagedFits staged revision replacements p n l =
+    (staged implies ltb revision top and ltb replacements top) and (staged or (eqb p none and eqb n 0 and eqb (workOf l) noTicket))
 
 -- "forward in phases 0 to 7: 0, 0, 1, 2, 3, 4, 4, 5; in 8: 4 or 5; later 0 to 5"
 unfoldable pub forwardFits : ℕ → ℕ → Bool
@@ -76,7 +77,7 @@ unfoldable pub whole : Record → Bool
 whole r =
     lengthsFit (r .accepted) (r .candidate) (r .recovery)
     and countsFit (r .entries) (r .applied) (r .attempted)
-    and stagedFits (r .staged) (r .revision) (r .phase .number) (r .entries) (r .live)
+    and stagedFits (r .staged) (r .revision) (r .replacements) (r .phase .number) (r .entries) (r .live)
     and leb (r .phase .number) recovered
     and forwardFits (r .phase .number) (r .forward)
     and backFits (r .phase .number) (r .back)

@@ -24,10 +24,10 @@ fn counts_fit(r: Record) -> bool
 }
 
 fn staged_fits(r: Record) -> bool
-    ensures { λ b. ⌜ b ≡ stagedFits (r .staged) (r .revision) (r .phase .number) (r .entries) (r .live) ⌝ }
+    ensures { λ b. ⌜ b ≡ stagedFits (r .staged) (r .revision) (r .replacements) (r .phase .number) (r .entries) (r .live) ⌝ }
 {
     let live = r.live;
-    (!r.staged | (r.revision < MAX))
+    (!r.staged | ((r.revision < MAX) & (r.replacements < MAX)))
         & (r.staged
             | ((r.phase.number == Phase::NONE) & (r.entries == 0) & (live.work() == Live::NONE)))
 }

@@ -15,7 +15,7 @@ const LONG: usize = 1 << 17;
 pub(super) fn lines(out: Out) -> io::Result<()> {
     writeln!(out, "# lines at the edge of what a script may say")?;
     for width in [LINE_MOST, LINE_MOST + 1] {
-        for (front, back) in [("stamp ", ""), ("check 7 ", " 0")] {
+        for (front, back) in [("stamp ", ""), ("check 7 ", " 0 0")] {
             let width = width as usize - front.len() - back.len();
             writeln!(out, "{}{:0>width$}{}", front, 7, back, width = width)?;
         }
@@ -66,7 +66,8 @@ fn odd() -> Vec<String> {
     lines.extend(line::bad_rows());
     lines.extend(line::bad_tails());
     lines.push(line::row_with(row::TICKET, 1));
-    lines.push(line::row(&Record::default().row()[1..]));
+    let row = Record::default().row();
+    lines.extend([line::row(&row[1..]), line::row(&[&row[..], &[0]].concat())]);
     lines.extend(["", " ", " show", "show ", "show\r"].map(String::from));
     lines
 }

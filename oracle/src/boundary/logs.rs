@@ -6,7 +6,7 @@ use super::records::{each_call, some_records};
 use super::{without_log, Out};
 use crate::line;
 use crate::log;
-use crate::model::Record;
+use crate::model::{Claim, Record};
 use crate::place::Place;
 use crate::sizes::*;
 use std::io;
@@ -18,7 +18,8 @@ pub(super) fn log_sizes(out: Out) -> io::Result<()> {
     let most = [LOG_MOST - EVENT, LOG_MOST - 1, LOG_MOST, LOG_MOST + 1, LOG_MOST + EVENT];
     for words in small.chain(least).chain(most).chain([HELD_LOG]) {
         writeln!(out, "{}\n{}", line::lend(Place::Log, words), line::open_at(0, 0, "3:1"))?;
-        writeln!(out, "begin 2:5 2:9 0:0\nedit 1:1 1:1\nstamp 1\n{}", line::check_of(1, 1, 0))?;
+        let check = line::check(Claim::of(&Record::default(), 1));
+        writeln!(out, "begin 2:5 2:9 0:0\nedit 1:1 1:1\nstamp 1\n{}", check)?;
         writeln!(out, "commit\nask-rollback\nshow")?;
         let long = format!("{}:1", AREA + 1);
         writeln!(out, "{}\nask-update\nshow", line::open_at(0, 0, &long))?;

@@ -1,17 +1,19 @@
 //! The boundary pairs of a record's fields; and the calls and the records that
 //! other boundary pairs are tried with.
 //!
-//! Written from document 01 and the page on the driver's script alone.
+//! Written from documents 01 and 02 and the page on the driver's script alone.
 
 use super::Out;
 use crate::line;
-use crate::model::{phase, Opening, Record, Ticket, Work};
+use crate::model::{phase, Claim, Opening, Record, Ticket, Work};
 use crate::sizes::{AREA, COUNT_MOST, MAX_ACTIONS, TOP};
 use std::io;
 
-/// The revision, the serial and the live ticket of the records here.
+/// The revision, the serial, which is the live ticket too, and the count of
+/// replacements of the records here.
 const REVISION: u64 = 5;
 const SERIAL: u64 = 7;
+const REPLACEMENTS: u64 = 11;
 
 /// Every call, with arguments that are in order; one ticket alone is not.
 pub(super) fn each_call() -> Vec<String> {
@@ -33,7 +35,7 @@ pub(super) fn each_call() -> Vec<String> {
         "recover-retained",
         "refresh 9",
         "stamp 3",
-        &line::check_of(3, 3, REVISION),
+        &line::check(Claim::of(&idle_record(), 3)),
         "report-structure 6 2 5 4:1 5:2",
     ];
     calls.map(String::from).to_vec()
@@ -41,7 +43,8 @@ pub(super) fn each_call() -> Vec<String> {
 
 /// The record that the others here differ from in a few fields.
 pub(super) fn idle_record() -> Record {
-    Record::opened(Opening::at(REVISION, SERIAL), 3)
+    let opening = Opening { replacements: REPLACEMENTS, ..Opening::at(REVISION, SERIAL) };
+    Record::opened(opening, 3)
 }
 
 pub(super) fn live(work: Work) -> Option<Ticket> {

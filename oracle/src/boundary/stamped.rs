@@ -5,6 +5,7 @@
 
 use super::records::{idle_record, some_records};
 use super::tail_lines::{add, advance, call, file, find, passing, remove, saved, table};
+use super::transaction::PAST_32_BITS;
 use super::Out;
 use crate::line;
 use crate::model::{phase, Claim, Record, Stamp, Task};
@@ -38,26 +39,27 @@ fn about_offset(out: Out, offset: u64, structs: bool) -> io::Result<()> {
     writeln!(out, "show")
 }
 
-/// Stamps, each with its domain: those that differ in one number do not pass.
-fn claims() -> Vec<Claim> {
-    let Claim { domain, stamp: Stamp { revision, .. } } = passing();
-    let claim =
-        |domain, stamped, revision| Claim { domain, stamp: Stamp { domain: stamped, revision } };
-    vec![
-        claim(domain, domain, revision),
-        claim(domain + 1, domain, revision),
-        claim(domain, domain + 1, revision),
-        claim(domain, domain, revision - 1),
-        claim(domain, domain, revision + 1),
-        claim(domain, domain, TOP),
-        claim(0, 0, revision),
-        claim(TOP, TOP, revision),
-    ]
+/// Stamps, each with its domain: those that differ in one number do not pass,
+/// nor does one with two of its numbers exchanged.
+pub(super) fn claims() -> Vec<Claim> {
+    let Claim { domain, stamp } = passing();
+    let Stamp { revision, replacements, .. } = stamp;
+    let mut claims = vec![passing(), Claim { domain: domain + 1, stamp }];
+    let domains = [domain + 1, domain + PAST_32_BITS];
+    let mut stamps = domains.map(|domain| Stamp { domain, ..stamp }).to_vec();
+    let revisions = [revision - 1, revision + 1, revision + PAST_32_BITS, TOP];
+    stamps.extend(revisions.map(|revision| Stamp { revision, ..stamp }));
+    let counts = [0, replacements - 1, replacements + 1, replacements + PAST_32_BITS, TOP];
+    stamps.extend(counts.map(|replacements| Stamp { replacements, ..stamp }));
+    stamps.push(Stamp { revision: replacements, replacements: revision, ..stamp });
+    claims.extend(stamps.into_iter().map(|stamp| Claim { domain, stamp }));
+    claims.extend([0, TOP].map(|domain| Claim::of(&idle_record(), domain)));
+    claims
 }
 
 /// Finding and moving a file that stands in the table, so that nothing but the
 /// stamp and the record can refuse it.
-fn both(out: Out, claim: Claim) -> io::Result<()> {
+pub(super) fn both(out: Out, claim: Claim) -> io::Result<()> {
     find(out, file(1, 1), 10, claim)?;
     advance(out, file(1, 1), 10, claim)
 }
@@ -74,10 +76,13 @@ pub(super) fn tail_stamps(out: Out) -> io::Result<()> {
     for claim in claims() {
         both(out, claim)?;
     }
-    let last = Record { revision: TOP, ..idle_record() };
-    writeln!(out, "{}", line::record(&last))?;
-    let stamp = Stamp { revision: TOP, ..passing().stamp };
-    both(out, Claim { stamp, ..passing() })?;
+    let last_revision = Record { revision: TOP, ..idle_record() };
+    let last_count = Record { replacements: TOP, ..idle_record() };
+    for last in [last_revision, last_count] {
+        writeln!(out, "{}", line::record(&last))?;
+        both(out, Claim::of(&last, 3))?;
+        both(out, passing())?;
+    }
     elsewhere(out)
 }
 

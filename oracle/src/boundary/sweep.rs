@@ -1,12 +1,12 @@
 //! A fixed script of small records, whole or not, in every phase.
 //!
-//! Written from document 01 and the page on the driver's script alone.
+//! Written from documents 01 and 02 and the page on the driver's script alone.
 
 use super::records::{each_call, idle_record, live};
 use super::Out;
 use crate::line;
 use crate::log;
-use crate::model::{phase, Record, Work};
+use crate::model::{phase, Claim, Record, Work};
 use crate::place::Place;
 use crate::sizes::LOG_MOST;
 use std::io;
@@ -81,7 +81,7 @@ fn sweep_tickets(out: Out, phase: u64, flags: u64, counts: u64) -> io::Result<()
     for work in works {
         let record = Record { live: work.and_then(live), ..small(phase, flags, counts) };
         let line = line::record(&record);
-        writeln!(out, "{}\n{}", line, line::check_of(3, 3, record.revision))?;
+        writeln!(out, "{}\n{}", line, line::check(Claim::of(&record, 3)))?;
         if record.whole() {
             writeln!(out, "{}", line::lend(Place::Log, LOG_MOST))?;
             writeln!(out, "{}", line::put(Place::Log, log::COUNT as u64, 0))?;

@@ -5,7 +5,7 @@
 use super::records::idle_record;
 use super::Out;
 use crate::line;
-use crate::model::{Claim, File, Stamp, Tail, Task};
+use crate::model::{Claim, File, Tail, Task};
 use crate::place::Place;
 use crate::sizes::TAIL;
 use crate::tails::Saved;
@@ -13,8 +13,7 @@ use std::io;
 
 /// A stamp that passes with the idle record.
 pub(super) fn passing() -> Claim {
-    let (domain, revision) = (3, idle_record().revision);
-    Claim { domain, stamp: Stamp { domain, revision } }
+    Claim::of(&idle_record(), 3)
 }
 
 pub(super) fn file(device: u64, inode: u64) -> File {

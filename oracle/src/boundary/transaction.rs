@@ -6,12 +6,14 @@
 use super::records::{each_call, some_records};
 use super::Out;
 use crate::line;
+use crate::model::{Claim, Opening, Record};
 use crate::place::Place;
 use crate::sizes::*;
 use std::io;
 
-/// What 32 bits do not hold: a length that is cut to them seems to fit.
-const PAST_32_BITS: u64 = 1 << 32;
+/// What 32 bits do not hold: a length that is cut to them seems to fit, and a
+/// stamp to pass.
+pub(super) const PAST_32_BITS: u64 = 1 << 32;
 
 pub(super) fn payload_lengths(out: Out) -> io::Result<()> {
     writeln!(out, "# payload lengths")?;
@@ -106,8 +108,9 @@ pub(super) fn serials(out: Out) -> io::Result<()> {
 pub(super) fn revisions(out: Out) -> io::Result<()> {
     writeln!(out, "# the last revisions")?;
     for revision in TOP - 2..=TOP {
-        let check = line::check_of(3, 3, revision);
-        writeln!(out, "{}\nstamp 3\n{}", line::open_at(revision, 0, "3:1"), check)?;
+        let opened = Record::opened(Opening::at(revision, 0), 3);
+        let check = line::check(Claim::of(&opened, 3));
+        writeln!(out, "{}\nstamp 3\n{}", line::open(opened.opening(), "3:1"), check)?;
         for _ in 0..2 {
             writeln!(out, "begin 2:5 2:9 0:0\nstamp 3\n{}\ncommit", check)?;
             writeln!(out, "{}\nrefresh 4\nshow", check)?;

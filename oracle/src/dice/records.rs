@@ -1,9 +1,9 @@
 //! Random records, whole and damaged.
 //!
-//! Written from document 01 and the page on the driver's script alone.
+//! Written from documents 01 and 02 and the page on the driver's script alone.
 
 use super::Dice;
-use crate::model::{phase, Opening, Record, Ticket, Work};
+use crate::model::{phase, Record, Ticket, Work};
 use crate::sizes::*;
 
 impl Dice {
@@ -18,7 +18,7 @@ impl Dice {
 
     /// A record that is whole, in any phase.
     pub fn whole_record(&mut self) -> Record {
-        let mut r = Record::opened(Opening::at(self.any(), 0), self.length());
+        let mut r = Record::opened(self.opening(), self.length());
         r.candidate = self.length();
         r.recovery = self.length();
         r.serial = self.pick(&[0, 1, 2, 7, TOP, TOP - 1, TOP - 2]);
@@ -28,6 +28,7 @@ impl Dice {
         }
         r.staged = true;
         r.revision = r.revision.min(TOP - 1);
+        r.replacements = r.replacements.min(TOP - 1);
         r.phase = if self.chance(30) { phase::NONE } else { self.below(phase::COUNT) };
         self.fill_counts(&mut r);
         self.fill_ticket(&mut r);
@@ -103,7 +104,7 @@ impl Dice {
     /// stay within what every driver takes.
     pub fn mutate(&mut self, r: &mut Record) {
         let length = self.pick(&[AREA, AREA + 1, AREA + 2, 2 * AREA, COUNT_MOST]);
-        match self.below(14) {
+        match self.below(15) {
             0 => r.revision = self.pick(&[TOP, TOP - 1]),
             1 => r.serial = self.nearby(r.serial, TOP),
             2 => r.accepted = length,
@@ -117,6 +118,7 @@ impl Dice {
             10 => r.applied = self.wild_count(r.applied),
             11 => r.attempted = self.wild_count(r.attempted),
             12 => r.restoring = !r.restoring,
+            13 => r.replacements = self.pick(&[TOP, TOP - 1]),
             _ => self.mutate_ticket(r),
         }
     }

@@ -8,7 +8,7 @@ use crate::place::Place;
 use crate::sizes::*;
 
 /// Lines whose words are wrong whatever the sizes are.
-const ODD_WORDS: [&str; 22] = [
+const ODD_WORDS: [&str; 24] = [
     "",
     "# a comment",
     "#commit",
@@ -29,7 +29,9 @@ const ODD_WORDS: [&str; 22] = [
     "stamp 99999999999999999999999",
     "stamp 0000000000000000000000000000000000007",
     "check 1 1",
-    "check 007 7 0",
+    "check 1 1 1",
+    "check 1 1 1 1 1",
+    "check 007 7 0 0",
     "begin 1:1 1:1",
 ];
 
@@ -93,6 +95,6 @@ pub(super) fn all() -> Vec<String> {
     lines.extend(ODD_ENDS.iter().map(owned));
     lines.extend(line::bad_rows());
     lines.extend(line::bad_tails());
-    lines.push("open 0 0".to_string());
+    lines.extend(["open 0 0 0", "open 0 0 0:0", "open 0 0 0 0 0:0"].iter().map(owned));
     lines
 }

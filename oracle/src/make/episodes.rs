@@ -1,11 +1,12 @@
 //! Episodes of a made script: chains, and records put in place, whole,
-//! damaged, at the last revision and at the last serials.
+//! damaged, at the last revision or count of replacements and at the last
+//! serials.
 //!
-//! Written from document 01 and the page on the driver's script alone.
+//! Written from documents 01 and 02 and the page on the driver's script alone.
 
 use super::Maker;
 use crate::line;
-use crate::model::{Name, Opening, Record, Ticket};
+use crate::model::{Name, Record, Ticket};
 use crate::place::Place;
 use crate::sizes::{AREA, HELD_AREA, HELD_TABLE, TABLE, TOP};
 use std::io;
@@ -64,21 +65,30 @@ impl Maker<'_> {
         self.place(&record)
     }
 
-    /// One thing lent in a wrong size, maybe with a damaged record or log.
+    /// A wrong size for a place.
+    fn wrong(&mut self, place: Place) -> u64 {
+        match place {
+            Place::Table => {
+                self.dice.pick(&[0, 1, TABLE - 2, TABLE - 1, TABLE + 1, TABLE + 2, HELD_TABLE])
+            }
+            Place::Log => self.wrong_log(),
+            _ => self.dice.pick(&[0, 1, AREA - 1, AREA + 1, HELD_AREA]),
+        }
+    }
+
+    /// One thing lent in a wrong size, maybe with a damaged record or log, and
+    /// at times surely without a log.
     pub(super) fn wrong_size(&mut self) -> io::Result<()> {
+        if self.dice.chance(30) {
+            self.lend(Place::Log, 0)?;
+        }
         let mut record = self.dice.whole_record();
         if self.dice.chance(25) {
             self.dice.mutate(&mut record);
         }
         self.place(&record)?;
         let place = self.dice.pick(&[Place::of_transaction(), &[Place::Log]].concat());
-        let size = match place {
-            Place::Table => {
-                self.dice.pick(&[0, 1, TABLE - 2, TABLE - 1, TABLE + 1, TABLE + 2, HELD_TABLE])
-            }
-            Place::Log => self.wrong_log(),
-            _ => self.dice.pick(&[0, 1, AREA - 1, AREA + 1, HELD_AREA]),
-        };
+        let size = self.wrong(place);
         self.lend(place, size)?;
         if self.dice.chance(20) {
             self.open()?;
@@ -95,15 +105,19 @@ impl Maker<'_> {
         Ok(())
     }
 
-    /// Idle or staged at and just below the highest revision.
-    pub(super) fn top_revision(&mut self) -> io::Result<()> {
+    /// Idle or staged at and just below the highest revision, the highest count
+    /// of replacements or both.
+    pub(super) fn maxima(&mut self) -> io::Result<()> {
         let mut record = self.dice.whole_record();
-        record.revision = TOP - u64::from(record.staged);
         if self.dice.chance(50) {
-            record = Record::opened(Opening::at(TOP, self.dice.any()), self.dice.length());
+            record = Record::opened(self.dice.opening(), self.dice.length());
         }
+        let last = TOP - u64::from(record.staged);
+        let (revision, count) = self.dice.pick(&[(true, false), (false, true), (true, true)]);
+        record.revision = if revision { last } else { record.revision.min(last - 1) };
+        record.replacements = if count { last } else { record.replacements.min(last - 1) };
         self.place(&record)?;
-        let name = if self.dice.chance(50) { Name::Begin } else { Name::BeginStructural };
+        let name = self.dice.pick(&[Name::Begin, Name::BeginStructural, Name::Refresh]);
         let line = self.line_of(name);
         self.say(&line)?;
         let count = 2 + self.dice.below(5);

@@ -4,7 +4,8 @@
 
 use super::Maker;
 use crate::line;
-use crate::model::{phase, Claim, Name, Outcome, Record, Stamp, Work, CALLS};
+use crate::model::{phase, Name, Outcome, Record, Work, CALLS};
+use crate::sizes::TOP;
 
 impl Maker<'_> {
     pub(super) fn any_call(&mut self) -> String {
@@ -13,9 +14,14 @@ impl Maker<'_> {
         self.line_of(but_open[at].name)
     }
 
-    /// What a careful caller might do next, now and then turning back.
+    /// What a careful caller might do next, now and then turning back. Where no
+    /// begin can come any more, that is an opening at times.
     pub(super) fn sensible(&mut self) -> String {
         let r = self.record().clone();
+        let last = r.revision == TOP || r.replacements == TOP;
+        if last && self.dice.chance(25) {
+            return self.opening();
+        }
         let name = if !r.staged {
             self.idle()
         } else if let Some(live) = r.live {
@@ -99,19 +105,6 @@ impl Maker<'_> {
         } else {
             self.dice.bold_length()
         }
-    }
-
-    /// A stamp and its domain: more often one that passes.
-    pub(super) fn claim(&mut self) -> Claim {
-        let revision = self.record().revision;
-        let domain = self.dice.any();
-        let given = if self.dice.chance(70) { domain } else { self.dice.beside(domain) };
-        let revision = match self.dice.below(10) {
-            0 => self.dice.any(),
-            1 | 2 => self.dice.beside(revision),
-            _ => revision,
-        };
-        Claim { domain, stamp: Stamp { domain: given, revision } }
     }
 
     /// Ticket, outcome and code of a report: mostly the live ticket.

@@ -5,7 +5,7 @@
 
 use super::Maker;
 use crate::line;
-use crate::model::{Claim, File, Name, Opening, Record, Stamp, Tail, Task};
+use crate::model::{Claim, File, Name, Record, Tail, Task};
 use crate::place::Place;
 use crate::sizes::{HELD_TAILS, TAIL, TAILS_MOST, TOP};
 use crate::tails::{records, sound, Saved};
@@ -16,6 +16,10 @@ use std::io;
 /// in a large one.
 const FEW: u64 = 4;
 const MANY: u64 = 40;
+
+/// The calls on the table that take a stamp.
+pub(super) const STAMPED: [Name; 4] =
+    [Name::FindTail, Name::MoveTail, Name::FindStruct, Name::MoveStruct];
 
 impl Maker<'_> {
     pub(super) fn tails(&mut self) -> io::Result<()> {
@@ -46,7 +50,7 @@ impl Maker<'_> {
     /// Mostly an idle record: in no other does a stamp pass.
     fn record_beside_tails(&mut self) -> Record {
         if self.dice.chance(70) {
-            return Record::opened(Opening::at(self.dice.any(), self.dice.any()), 0);
+            return Record::opened(self.dice.opening(), 0);
         }
         let mut record = self.dice.whole_record();
         if self.dice.chance(50) {
@@ -129,17 +133,21 @@ impl Maker<'_> {
     }
 
     fn any_tail_call(&mut self) -> String {
-        use Name::*;
-        let changing = [AddTail, AddTail, RemoveTail];
-        let stamped = [FindTail, MoveTail, FindStruct, MoveStruct];
+        let changing = [Name::AddTail, Name::AddTail, Name::RemoveTail];
         let name =
-            if self.dice.chance(40) { self.dice.pick(&changing) } else { self.dice.pick(&stamped) };
+            if self.dice.chance(40) { self.dice.pick(&changing) } else { self.dice.pick(&STAMPED) };
         self.tail_call(name)
     }
 
-    /// A call of this name on the tail table. But for adding it is mostly on a
-    /// file that stands there, with a number that is about the saved offset.
+    /// A call of this name on the tail table, with a stamp where it takes one.
     pub(super) fn tail_call(&mut self, name: Name) -> String {
+        let claim = self.tail_claim();
+        self.tail_call_with(name, claim)
+    }
+
+    /// But for adding it is mostly on a file that stands in the table, with a
+    /// number that is about the saved offset.
+    pub(super) fn tail_call_with(&mut self, name: Name, claim: Claim) -> String {
         let Saved { file, offset } = self.some_saved();
         let number = match self.dice.below(7) {
             0 | 1 => offset.saturating_sub(1),
@@ -148,7 +156,6 @@ impl Maker<'_> {
             _ => self.dice.any(),
         };
         let structs = matches!(name, Name::FindStruct | Name::MoveStruct);
-        let claim = self.tail_claim();
         let task = match name {
             Name::AddTail => Task::Add { offset: number },
             Name::RemoveTail => Task::Remove,
@@ -157,14 +164,5 @@ impl Maker<'_> {
         };
         let other = name == Name::AddTail && self.dice.chance(70);
         line::tail(Tail { file: if other { self.any_file() } else { file }, task })
-    }
-
-    /// A stamp that passes if one can, or often does.
-    fn tail_claim(&mut self) -> Claim {
-        if self.dice.chance(50) {
-            return self.claim();
-        }
-        let domain = self.dice.any();
-        Claim { domain, stamp: Stamp { domain, revision: self.record().revision } }
     }
 }

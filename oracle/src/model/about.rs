@@ -115,6 +115,7 @@ const REPORTING: &[Refusal] = &[Stale, LongCandidate, LongRecovery];
 const EDITING: &[Refusal] = &[Idle, LongCandidate, LongRecovery];
 const ENDED: &[Place] = &[Accepted, Exchange];
 const RETAINED: &[Place] = &[Accepted, Recovery, Exchange];
+const REFRESHING: &[Refusal] = &[Pending, Capacity, LongSnapshot];
 const IDS: &[Place] = &[Groups, Status];
 const MOVING: &[Refusal] = &[NotPassed, Absent, GoesBack];
 
@@ -133,7 +134,7 @@ pub static CALLS: [About; 25] = [
     row(Name::Commit, "commit", Some(9), &[Accepted, Candidate], &[Idle, NotReady], Act),
     row(Name::Recover, "recover", Some(10), ENDED, &[Idle, NotReady, LongSnapshot], Act),
     row(Name::RecoverRetained, "recover-retained", Some(11), RETAINED, &[Idle, NotReady], Act),
-    row(Name::Refresh, "refresh", Some(12), ENDED, &[Pending, LongSnapshot], Act),
+    row(Name::Refresh, "refresh", Some(12), ENDED, REFRESHING, Act),
     row(Name::Stamp, "stamp", None, &[], &[Pending], Act),
     row(Name::Check, "check", None, &[], &[], Act),
     row(Name::Link, "link", None, IDS, &[NoStatus], Act),

@@ -1,6 +1,6 @@
 //! The steps of commit, both recoveries, refresh, and stamps.
 //!
-//! Written from document 01 alone.
+//! Written from documents 01 and 02 alone.
 
 use super::{Claim, Record, Stamp, Step, Write};
 use crate::place::Place;
@@ -36,24 +36,22 @@ pub(super) fn recover_retained(old: &Record) -> Step {
     recovered(old, old.recovery, writes)
 }
 
-/// Decision: refresh names only the accepted payload, so an idle record that
-/// is restoring stays so, and the other two lengths stay.
+/// Decision: refresh names only the accepted payload and the count of
+/// replacements, so an idle record that is restoring stays so, and the other
+/// two lengths stay.
 pub(super) fn refresh(old: &Record, length: u64) -> Step {
-    let new = Record { accepted: length, ..old.clone() };
+    let mut new = old.clone();
+    new.replace(length);
     Step::done(new, &[old.accepted], exchanged())
 }
 
-fn stamp_of(record: &Record, domain: u64) -> Stamp {
-    Stamp { domain, revision: record.revision }
-}
-
 pub(super) fn stamp(old: &Record, domain: u64) -> Step {
-    Step::done(old.clone(), &stamp_of(old, domain).words(), vec![])
+    Step::done(old.clone(), &Stamp::of(old, domain).words(), vec![])
 }
 
 /// Whether a stamp passes, the record being whole.
 pub fn passes(record: &Record, claim: Claim) -> bool {
-    !record.staged && claim.stamp == stamp_of(record, claim.domain)
+    !record.staged && claim == Claim::of(record, claim.domain)
 }
 
 pub(super) fn check(old: &Record, claim: Claim) -> Step {

@@ -1,6 +1,6 @@
 //! The record, and when it is whole.
 //!
-//! Written from document 01 alone.
+//! Written from documents 01 and 02 alone.
 
 use super::{phase, Opening};
 use crate::sizes::{AREA, MAX_ACTIONS, TOP};
@@ -19,7 +19,8 @@ pub struct Ticket {
     pub number: u64,
 }
 
-/// The record; its default is that of an opening at 0, 0 with an empty payload.
+/// The record; its default is that of an opening at 0, 0, 0 with an empty
+/// payload.
 #[derive(Clone, Debug, Default, PartialEq, Eq)]
 pub struct Record {
     pub revision: u64,
@@ -36,18 +37,20 @@ pub struct Record {
     pub attempted: u64,
     pub restoring: bool,
     pub live: Option<Ticket>,
+    pub replacements: u64,
 }
 
 impl Record {
     /// The record of an opening.
     pub fn opened(opening: Opening, accepted: u64) -> Record {
-        let Opening { revision, serial } = opening;
-        Record { revision, serial, accepted, ..Record::default() }
+        let Opening { revision, serial, replacements } = opening;
+        Record { revision, serial, replacements, accepted, ..Record::default() }
     }
 
     /// What an opening would be given to go on from here.
     pub fn opening(&self) -> Opening {
-        Opening { revision: self.revision, serial: self.serial }
+        let Record { revision, serial, replacements, .. } = *self;
+        Opening { revision, serial, replacements }
     }
 
     pub fn whole(&self) -> bool {
@@ -70,7 +73,7 @@ impl Record {
 
     fn staging_holds(&self) -> bool {
         if self.staged {
-            self.revision < TOP
+            self.revision < TOP && self.replacements < TOP
         } else {
             self.phase == phase::NONE && self.entries == 0 && self.live.is_none()
         }
@@ -139,8 +142,15 @@ impl Record {
         self.serial
     }
 
-    /// What commit and both recoveries leave besides revision and accepted.
+    /// Puts settings of this length in force in place of others.
+    pub(super) fn replace(&mut self, accepted: u64) {
+        self.accepted = accepted;
+        self.replacements += 1;
+    }
+
+    /// What commit and both recoveries leave besides the revision.
     pub(super) fn settle(&mut self, accepted: u64) {
+        self.replace(accepted);
         *self = Record::opened(self.opening(), accepted);
     }
 }

@@ -19,7 +19,7 @@ fn given(refusal: Refusal, record: &Record, call: &Call) -> bool {
     match refusal {
         Refusal::Pending => record.staged,
         Refusal::Idle => !record.staged,
-        Refusal::Capacity => record.revision == TOP,
+        Refusal::Capacity => at_capacity(record, call),
         Refusal::NotReady => not_ready(record, call),
         Refusal::Recovering => !record.updates(),
         Refusal::TooMany => actions(call.pairs()) > MAX_ACTIONS,
@@ -38,6 +38,17 @@ fn given(refusal: Refusal, record: &Record, call: &Call) -> bool {
         | Refusal::NotPassed => {
             unreachable!("no refusal of the transaction")
         }
+    }
+}
+
+/// A begin needs room for a revision and a replacement, a refresh for a
+/// replacement alone.
+fn at_capacity(record: &Record, call: &Call) -> bool {
+    let worn = record.replacements == TOP;
+    match call {
+        Call::Begin { .. } => record.revision == TOP || worn,
+        Call::Refresh { .. } => worn,
+        _ => unreachable!("no other call is refused so"),
     }
 }
 

@@ -5,7 +5,7 @@
 use super::{Record, Ticket, Work};
 
 /// How many numbers a row has.
-pub const FIELDS: usize = 15;
+pub const FIELDS: usize = 16;
 
 /// Where these stand in a row.
 pub const STAGED: usize = 5;
@@ -62,6 +62,7 @@ impl Record {
             u64::from(self.restoring),
             kind,
             number,
+            self.replacements,
         ]
     }
 
@@ -69,12 +70,12 @@ impl Record {
     pub fn of_row(row: [u64; FIELDS]) -> Option<Record> {
         let [
             revision, serial, accepted, candidate, recovery, staged, phase, forward, back,
-            entries, applied, attempted, restoring, kind, number,
+            entries, applied, attempted, restoring, kind, number, replacements,
         ] = row;
         let (staged, restoring, live) = (flag(staged)?, flag(restoring)?, live(kind, number)?);
         Some(Record {
             revision, serial, accepted, candidate, recovery, staged, phase, forward, back,
-            entries, applied, attempted, restoring, live,
+            entries, applied, attempted, restoring, live, replacements,
         })
     }
 }

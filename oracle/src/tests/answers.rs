@@ -46,7 +46,7 @@ fn the_answers_that_are_written() {
 
 #[test]
 fn a_record_is_its_row() {
-    let row = [9, 8, 7, 6, 5, 1, 12, 4, 3, 2, 1, 0, 1, 3, 11];
+    let row = [9, 8, 7, 6, 5, 1, 12, 4, 3, 2, 1, 0, 1, 3, 11, 10];
     let record = Record {
         revision: 9,
         serial: 8,
@@ -62,6 +62,7 @@ fn a_record_is_its_row() {
         attempted: 0,
         restoring: true,
         live: Some(Ticket { work: Work::Rollback, number: 11 }),
+        replacements: 10,
     };
     assert_eq!(Record::of_row(row), Some(record.clone()));
     assert_eq!(record.row(), row);

@@ -1,16 +1,18 @@
-//! Document 01's cases P1 to P12, and the last ticket.
+//! Document 01's cases P1 to P12, of which request 3 of document 02 changes the
+//! first and the last, and the last ticket.
 //!
-//! Written from document 01 and the page on the driver's script alone.
+//! Written from documents 01 and 02 and the page on the driver's script alone.
 
-use super::{holds, open, play, record_after, staged};
+use super::{holds, open, play, record_after, staged, stamped};
 use crate::line;
-use crate::model::{phase, Record, Ticket, Work};
+use crate::model::{phase, Claim, Opening, Record, Ticket, Work};
 use crate::sizes::TOP;
 use std::ops::RangeInclusive;
 
 #[test]
 fn p1_stamp_of_an_opening() {
-    holds(&[(&open(7, 0, "0:0"), "0"), ("stamp 3", "0 3 7")]);
+    let opening = Opening { replacements: 5, ..Opening::at(7, 0) };
+    holds(&[(&line::open(opening, "0:0"), "0"), ("stamp 3", "0 3 7 5")]);
 }
 
 #[test]
@@ -25,7 +27,7 @@ fn p2_begin_at_the_last_revision() {
 #[test]
 fn p3_staged_at_the_last_revision() {
     let record = line::record(&Record { revision: TOP, ..staged() });
-    let check = line::check_of(0, 0, 0);
+    let check = line::check(Claim::of(&staged(), 0));
     holds(&[(&record, ""), ("commit", "7"), ("ask-update", "7"), (&check, "7")]);
 }
 
@@ -37,7 +39,7 @@ fn p4_commit_at_once() {
 #[test]
 fn p5_recover_at_once() {
     let lines = [&open(4, 0, "3:1"), "begin 2:5 1:9 0:0", "recover 6", "stamp 1"];
-    assert_eq!(play(&lines), ["0", "0", "0 3 2 1", "0 1 4"]);
+    assert_eq!(play(&lines), ["0", "0", "0 3 2 1", "0 1 4 1"]);
 }
 
 #[test]
@@ -57,7 +59,7 @@ fn p6_structural_without_actions() {
         ("ask-structure", "20 5 6"),
         ("report-structure 5 2 0 4:1 5:1", "24"),
         ("commit", "0 3 5 0"),
-        ("stamp 0", "0 0 1"),
+        ("stamp 0", "0 0 1 1"),
     ]);
 }
 
@@ -136,15 +138,17 @@ fn p11_idle_rollback() {
 }
 
 #[test]
-fn p12_a_stamp_outlives_a_recovery() {
-    let check = line::check_of(3, 3, 7);
+fn p12_no_stamp_outlives_a_recovery() {
+    let check = line::check(stamped(7, 0));
     holds(&[
         (&open(7, 0, "0:0"), "0"),
-        ("stamp 3", "0 3 7"),
+        ("stamp 3", "0 3 7 0"),
+        (&check, "0 1"),
         ("begin 0:0 0:0 0:0", "0"),
         (&check, "0 0"),
         ("recover 0", "0 0 0 0"),
-        (&check, "0 1"),
+        (&check, "0 0"),
+        ("stamp 3", "0 3 7 1"),
     ]);
 }
 

@@ -36,7 +36,7 @@ fn a_full_log_and_the_order_of_refusals() {
         ("report-update 0 2 0 0", "10"),
         (&line::put(Place::Log, log::ZERO as u64, 1), ""),
         ("ask-update", "7"),
-        ("stamp 1", "0 1 0"),
+        ("stamp 1", "0 1 0 0"),
         (&line::lend(Place::Candidate, AREA - 1), ""),
         ("commit", "6"),
         (&line::lend(Place::Log, LOG_LEAST + 2), ""),
@@ -51,7 +51,7 @@ fn the_example_of_the_page() {
     let lines = ["lend l 16", &open(0, 0, "3:1"), "begin 2:5 2:9 0:0", "commit", "show"];
     let said = play(&lines);
     assert_eq!(said[..3], ["0", "0", "0 3 2 0"]);
-    assert_eq!(said[3], "record 1 0 2 0 0 0 0 0 0 0 0 0 0 0 0");
+    assert_eq!(said[3], "record 1 0 2 0 0 0 0 0 0 0 0 0 0 0 0 1");
     let starts: Vec<&str> = said[4..].iter().map(|s| s.split(' ').next().unwrap()).collect();
     assert_eq!(starts, ["bytes", "table", "log", "status", "tails"]);
 }
@@ -92,22 +92,22 @@ fn bad_lines() {
         ("stamp 1\r", "? 8"),
         ("stamp -1", "? 9"),
         ("stamp 18446744073709551616", "? 10"),
-        ("stamp 00018446744073709551615", "0 18446744073709551615 0"),
+        ("stamp 00018446744073709551615", "0 18446744073709551615 0 0"),
         (&long, "? 12"),
-        (&just, "0 7 0"),
+        (&just, "0 7 0 0"),
         (&comment, ""),
         (&line::lend(Place::Accepted, HELD_AREA + 1), "? 15"),
         ("put g 0 256", "? 16"),
         ("link 1 2", "? 17"),
         ("nothing", "? 18"),
-        ("stamp 5", "0 5 0"),
+        ("stamp 5", "0 5 0 0"),
     ]);
 }
 
 #[test]
 fn bytes_that_are_no_lines_of_text() {
-    assert_eq!(play_bytes(b"stamp 1\n\n\nbad\n"), ["0 1 0", "? 4"]);
-    assert_eq!(play_bytes(b"\xff\n#\xff\nstamp 2"), ["? 1", "0 2 0"]);
+    assert_eq!(play_bytes(b"stamp 1\n\n\nbad\n"), ["0 1 0 0", "? 4"]);
+    assert_eq!(play_bytes(b"\xff\n#\xff\nstamp 2"), ["? 1", "0 2 0 0"]);
     assert!(play_bytes(b"").is_empty());
 }
 
@@ -117,7 +117,7 @@ fn lines_across_small_buffers() {
     let mut output = Vec::new();
     let mut input = std::io::BufReader::with_capacity(3, text.as_bytes());
     script::play(&mut input, &mut output).expect("playing into memory");
-    assert_eq!(output, b"0 1 0\n? 2\n0 2 0\n");
+    assert_eq!(output, b"0 1 0 0\n? 2\n0 2 0 0\n");
 }
 
 #[test]

@@ -2,16 +2,11 @@
 //!
 //! Written from documents 01 and 02 and the page on the driver's script alone.
 
-use super::{holds, open, staged};
-use crate::model::{phase, Claim, File, Record, Stamp, Tail, Task};
+use super::{holds, open, staged, stamped};
+use crate::model::{phase, Claim, File, Record, Tail, Task};
 use crate::place::Place;
 use crate::sizes::{TAIL, TOP};
 use crate::{line, script};
-
-/// A stamp of domain 3 at a revision.
-fn stamped(revision: u64) -> Claim {
-    Claim { domain: 3, stamp: Stamp { domain: 3, revision } }
-}
 
 fn finding(structs: bool, inode: u64, size: u64, claim: Claim) -> String {
     let file = File { device: 1, inode };
@@ -28,7 +23,7 @@ fn moving(structs: bool, inode: u64, offset: u64, claim: Claim) -> String {
 #[test]
 fn finding_says_same_shrunk_or_unknown() {
     for structs in [false, true] {
-        let find = |inode, size| finding(structs, inode, size, stamped(7));
+        let find = |inode, size| finding(structs, inode, size, stamped(7, 0));
         holds(&[
             (&open(7, 0, "0:0"), "0"),
             (&find(2, 0), "0 2"),
@@ -44,22 +39,27 @@ fn finding_says_same_shrunk_or_unknown() {
 }
 
 /// Calls with stamps on a file that stands in the table with offset 5, from
-/// revision 7 on over a commit, and what they answer where the stamp passes.
+/// revision 7 on over a commit and a refresh, and what they answer where the
+/// stamp passes.
 fn holds_by_stamps(call: &dyn Fn(Claim) -> String, passed: &str) {
-    let other = Claim { domain: 4, ..stamped(7) };
+    let other = Claim { domain: 4, ..stamped(7, 0) };
     holds(&[
         (&open(7, 0, "0:0"), "0"),
         ("add-tail 1 1 5", "0"),
-        (&call(stamped(7)), passed),
+        (&call(stamped(7, 0)), passed),
         (&call(other), "35"),
-        (&call(stamped(8)), "35"),
+        (&call(stamped(8, 0)), "35"),
+        (&call(stamped(7, 1)), "35"),
         ("begin 0:0 0:0 0:0", "0"),
-        (&call(stamped(7)), "35"),
+        (&call(stamped(7, 0)), "35"),
         ("commit", "0 0 0 0"),
-        (&call(stamped(7)), "35"),
-        (&call(stamped(8)), passed),
+        (&call(stamped(7, 0)), "35"),
+        (&call(stamped(8, 1)), passed),
+        ("refresh 0", "0 0"),
+        (&call(stamped(8, 1)), "35"),
+        (&call(stamped(8, 2)), passed),
         (&line::record(&Record { phase: phase::COUNT, ..staged() }), ""),
-        (&call(stamped(8)), "7"),
+        (&call(stamped(8, 2)), "7"),
         ("add-tail 1 2 5", "0"),
         ("remove-tail 1 1", "0"),
     ]);
@@ -79,8 +79,8 @@ fn finding_and_moving_take_a_stamp() {
 #[test]
 fn refusals_stand_in_their_order() {
     for structs in [false, true] {
-        let advance = |inode, offset| moving(structs, inode, offset, stamped(0));
-        let wrong = moving(structs, 2, 0, stamped(1));
+        let advance = |inode, offset| moving(structs, inode, offset, stamped(0, 0));
+        let wrong = moving(structs, 2, 0, stamped(1, 0));
         holds(&[
             ("lend f 0", ""),
             ("add-tail 1 1 5", "31"),
@@ -152,13 +152,13 @@ fn records_are_added_moved_and_removed() {
     let mut lines = vec!["put f 9 7", "put f 12 7", "add-tail 2 2 20", "add-tail 1 8 80"];
     lines.extend(["add-tail 1 9 90", "add-tail 3 0 30"]);
     leaves(&lines, 4, &[1, 8, 80, 1, 9, 90, 2, 2, 20, 3, 0, 30, 7, 0, 0]);
-    let back = moving(false, 9, 89, stamped(0));
+    let back = moving(false, 9, 89, stamped(0, 0));
     lines.extend(["remove-tail 1 8", "remove-tail 1 8", "add-tail 2 2 0", &back]);
     leaves(&lines, 3, &[1, 9, 90, 2, 2, 20, 3, 0, 30, 0, 0, 0, 7, 0, 0]);
-    let flat = moving(false, 9, 91, stamped(0));
+    let flat = moving(false, 9, 91, stamped(0, 0));
     lines.extend(["remove-tail 3 0", &flat]);
     leaves(&lines, 2, &[1, 9, 91, 2, 2, 20, 0, 0, 0, 0, 0, 0, 7, 0, 0]);
-    let structs = moving(true, 9, 92, stamped(0));
+    let structs = moving(true, 9, 92, stamped(0, 0));
     lines.extend(["remove-tail 2 2", &structs]);
     leaves(&lines, 1, &[1, 9, 92, 0, 0, 0, 0, 0, 0, 0, 0, 0, 7, 0, 0]);
 }

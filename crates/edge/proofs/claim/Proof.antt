@@ -6,7 +6,10 @@ use Rattle.edge.proofs.claim.Statement.{statement}
 use Rattle.edge.proofs.claim.Tie as tie
 
 returns : tie.Need-returns
-returns c = ap (λ (r : Record). record { «record» = r; domain = 0; stamp = record { domain = 0; revision = c .before .args .stamped } }) (c .opened .ensures)
+returns c =
+    let a = c .before .args in
+    ap (λ (r : Record). record { «record» = r; domain = 0; stamp = record { domain = 0; revision = a .stamped; replacements = a .counted } })
+    (c .opened .ensures)
 
 pub claim-spec : {M : Type 1} → statement M
 claim-spec = tie.close (tie.spec (λ c κs. search needs) returns)

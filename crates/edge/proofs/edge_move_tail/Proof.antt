@@ -24,14 +24,14 @@ returns : tie.Need-returns
 returns c =
     let m = c .before .before .before .before in
     let a = m .before .before .before .before .args in
-    told (a .words .now) (a .used) (tailOf (a .device) (a .inode) (a .offset)) Done (m .move-offset .ensures) (m .before .claim .ensures) (c .enum-told .given .1)
+    told (a .words .now) (a .used) (tailOf (a .device) (a .inode) (a .offset)) Done (m .move-offset .ensures) (m .before .before .claim .ensures) (c .enum-told .given .1)
 
 returns-2 : tie.Need-returns-2
 returns-2 c =
     let m = c .before .before .before .before .before .before in
     let a = m .before .before .before .before .args in
     ap (λ (n : ℕ). n ∷ m .move-offset .last .0) (c .number .ensures)
-    ∙ told (a .words .now) (a .used) (tailOf (a .device) (a .inode) (a .offset)) (Refused _) (m .move-offset .ensures) (m .before .claim .ensures) (c .before .before .why .given .1)
+    ∙ told (a .words .now) (a .used) (tailOf (a .device) (a .inode) (a .offset)) (Refused _) (m .move-offset .ensures) (m .before .before .claim .ensures) (c .before .before .why .given .1)
 
 pub edge-move-tail-spec : {M : Type 1} → statement M
 edge-move-tail-spec =

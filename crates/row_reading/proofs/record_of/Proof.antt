@@ -51,4 +51,4 @@ record-of-spec =
     (tie.spec (λ c. search needs) (λ c. search needs) cast-live-of (λ c. search needs) (λ c. search needs) (λ c. search needs)
     (λ c. search needs) (λ c. search needs) (λ c. search needs) (λ c. search needs) (λ c. search needs) (λ c. search needs) cast-t9
     (λ c. search needs) cast-t40 (λ c. search needs) cast-t44 (λ c. search needs) cast-t48 (λ c. search needs) cast-t52
-    (λ c. search needs) cast-t56 (λ c. search needs) returns returns-2)
+    (λ c. search needs) cast-t56 (λ c. search needs) (λ c. search needs) returns returns-2)

@@ -1,11 +1,16 @@
--- `step_ends::commit` meets its contract: a staged record's revision can be raised. Assumes nothing.
-use mathlib.Core.Path.{refl, sym, _∙_}
+-- `step_ends::commit` meets its contract: a staged record's revision can be raised, and its count. Assumes nothing.
+use Prim.Native.Nat.{_<_}
+use mathlib.Core.Path.{_≡_}
+use mathlib.Core.Bool.{Bool}
 use native.Mathlib.Omega.{arith}
 use borrow.Author.Tests.{not-false}
-use Rattle.answers.specs.declared.Refusal.the-variants.{Idle}
-use Rattle.gates.proofs.Passing.{barred-out, let-in, clear, fails}
-use Rattle.wholeness.proofs.Facts.{staged-room}
-use Rattle.gates.proofs.Behind.{behind}
+use Rattle.record.specs.Fields.{top}
+use Rattle.record.specs.declared.Record.{Record}
+use Rattle.gates.specs.Gates.{gateOf, through}
+use Rattle.gates.specs.declared.Gate.{Gate}
+use Rattle.gates.specs.declared.Gate.the-variants.{Open}
+use Rattle.gates.proofs.Passing.{barred-out, let-in}
+use Rattle.gates.proofs.Behind.{room-behind}
 use Rattle.step_ends.specs.Ending.{commitBars, commitOwn}
 use borrow.Author.Needs.{needs}
 use Rattle.step_ends.proofs.commit.Statement.{statement}
@@ -18,17 +23,23 @@ returns c =
     let r = k .before .args .r in
     barred-out _ (commitBars r) (k .commit-gate .ensures) r _ (c .before .before .gate .given .1) (c .refuse .ensures)
 
+room : {g : Gate} (sized sound : Bool) (r : Record) → g ≡ through (gateOf sized sound r) (commitBars r) → g ≡ Open → (r .revision < top) × (r .replacements < top)
+room sized sound r = room-behind sized sound r (commitBars r) (λ x. not-false _ (x .0))
+
 add-t8 : tie.Need-add-t8
 add-t8 c =
     let k = c .before .before .before .before in
-    let bs = commitBars (k .before .args .r) in
-    let t = clear _ bs (sym (k .commit-gate .ensures) ∙ c .before .before .enum-told .given .1) in
-    omega (arith, staged-room _ _ _ _ _ (behind _ _ _ refl (t .0) .staging) (not-false _ (fails bs (t .1) Idle)))
+    omega (arith, room _ _ _ (k .commit-gate .ensures) (c .before .before .enum-told .given .1))
+
+add-t9 : tie.Need-add-t9
+add-t9 c =
+    let k = c .before .before .before .before .before in
+    omega (arith, room _ _ _ (k .commit-gate .ensures) (c .before .before .before .enum-told .given .1))
 
 returns-2 : tie.Need-returns-2
 unfolding commitOwn
 returns-2 c =
-    let k = c .before .before .before .before in
+    let k = c .before .before .before .before .before in
     let r = k .before .before .before .args .r in
     let-in _ (commitBars r) (k .before .before .commit-gate .ensures) r (k .enum-told .given .1)
     (rw (c .before .opened .ensures) at (c .answering .ensures))
@@ -36,5 +47,5 @@ returns-2 c =
 pub commit-spec : {M : Type 1} → statement M
 commit-spec =
     tie.close
-    (tie.spec (λ c. search needs) (λ c. search needs) (λ c. search needs) returns (λ c. search needs) (λ c. search needs) add-t8
+    (tie.spec (λ c. search needs) (λ c. search needs) (λ c. search needs) returns (λ c. search needs) (λ c. search needs) add-t8 add-t9
     (λ c. search needs) (λ c. search needs) returns-2)

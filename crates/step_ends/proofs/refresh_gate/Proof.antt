@@ -7,7 +7,9 @@ use Rattle.step_ends.proofs.refresh_gate.Statement.{statement}
 use Rattle.step_ends.proofs.refresh_gate.Tie as tie
 
 returns : tie.Need-returns
-returns c = next-row (longSnapshot _ []) (c .bar-snapshot .ensures) (next _ _ (c .before .bar .ensures) (c .before .before .admit .ensures))
+returns c =
+    let k = c .before in
+    next-row (longSnapshot _ []) (c .bar-snapshot .ensures) (next _ _ (k .bar2 .ensures) (next _ _ (k .before .before .bar .ensures) (k .before .before .before .admit .ensures)))
 
 pub refresh-gate-spec : {M : Type 1} → statement M
-refresh-gate-spec = tie.close (tie.spec (λ c. search needs) (λ c. search needs) (λ c. search needs) returns)
+refresh-gate-spec = tie.close (tie.spec (λ c. search needs) (λ c. search needs) (λ c. search needs) (λ c. search needs) returns)

@@ -13,11 +13,11 @@ returns c = yes _ (told-not (c .before .whole .ensures) (c .if1 .taken)) refl
 
 returns-2 : tie.Need-returns-2
 unfolding checkStep passes _and_
-returns-2 c = no _ (told-not (c .before .before .before .before .before .before .whole .ensures) (c .before .before .before .before .before .if1 .left)) (yes _ (c .if2 .taken) refl)
+returns-2 c = no _ (told-not (c .before .before .before .before .before .before .before .before .whole .ensures) (c .before .before .before .before .before .before .before .if1 .left)) (yes _ (c .if2 .taken) refl)
 
 returns-3 : tie.Need-returns-3
 unfolding checkStep passes _and_
-returns-3 c = no _ (told-not (c .before .before .before .before .before .before .whole .ensures) (c .before .before .before .before .before .if1 .left)) (no _ (c .if2 .left) refl)
+returns-3 c = no _ (told-not (c .before .before .before .before .before .before .before .before .whole .ensures) (c .before .before .before .before .before .before .before .if1 .left)) (no _ (c .if2 .left) refl)
 
 pub check-spec : {M : Type 1} → statement M
 check-spec = tie.close (tie.spec (λ c. search needs) returns returns-2 returns-3)
