@@ -90,11 +90,7 @@ fn find_rust(words: &mut [u64], device: u64, inode: u64) -> u64 {
 
 fn find_proved(words: &mut [u64], device: u64, inode: u64) -> u64 {
     let (revision, count) = (REVISION, REPLACEMENTS);
-    unsafe {
-        edge_find_tail(
-            words, RECORDS, device, inode, SIZE, revision, count, revision, count,
-        )
-    }
+    unsafe { edge_find_tail(words, RECORDS, device, inode, SIZE, revision, count, revision, count) }
 }
 
 #[inline(never)]
@@ -116,9 +112,7 @@ fn move_rust(words: &mut [u64], device: u64, inode: u64) -> u64 {
 fn move_proved(words: &mut [u64], device: u64, inode: u64) -> u64 {
     let (revision, count) = (REVISION, REPLACEMENTS);
     unsafe {
-        edge_move_tail(
-            words, RECORDS, device, inode, OFFSET, revision, count, revision, count,
-        )
+        edge_move_tail(words, RECORDS, device, inode, OFFSET, revision, count, revision, count)
     }
 }
 
