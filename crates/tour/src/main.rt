@@ -112,40 +112,58 @@ fn round(
     reload(begun.state, accepted, candidate, recovery, table, broken)
 }
 
-fn main() {
-    let mut accepted = [0u8; AREA];
-    let mut candidate = [0u8; AREA];
-    let mut recovery = [0u8; AREA];
-    let mut table = [0u64; TABLE];
+// The settings in force, at revision 7.
+fn opened(accepted: &mut [u8; AREA]) -> Record {
     let start = Opening {
         revision: 7,
         serial: 0,
         replacements: 0,
     };
     let old = [1u8; 40];
-    let first = transaction::open(start, &mut accepted, &old);
-    let plan = transaction::stamp(first.state, DOMAIN);
-    let last = round(
-        first.state,
+    transaction::open(start, accepted, &old).state
+}
+
+// A plan is stamped, a reload is run, and the stamp is checked.
+fn reviewed(
+    r: Record,
+    accepted: &mut [u8; AREA],
+    candidate: &mut [u8; AREA],
+    recovery: &mut [u8; AREA],
+    table: &mut [u64; TABLE],
+    broken: u32,
+    by: End,
+) -> Record {
+    let plan = transaction::stamp(r, DOMAIN);
+    let last = round(r, accepted, candidate, recovery, table, broken);
+    ended(by, last);
+    verdict(last.state, plan);
+    last.state
+}
+
+fn main() {
+    let mut accepted = [0u8; AREA];
+    let mut candidate = [0u8; AREA];
+    let mut recovery = [0u8; AREA];
+    let mut table = [0u64; TABLE];
+    let first = opened(&mut accepted);
+    let then = reviewed(
+        first,
         &mut accepted,
         &mut candidate,
         &mut recovery,
         &mut table,
         2,
+        End::Commit,
     );
-    ended(End::Commit, last);
-    verdict(last.state, plan);
-    let plan = transaction::stamp(last.state, DOMAIN);
-    let last = round(
-        last.state,
+    let last = reviewed(
+        then,
         &mut accepted,
         &mut candidate,
         &mut recovery,
         &mut table,
         1,
+        End::Recovery,
     );
-    ended(End::Recovery, last);
-    verdict(last.state, plan);
-    let plan = transaction::stamp(last.state, DOMAIN);
-    verdict(last.state, plan);
+    let plan = transaction::stamp(last, DOMAIN);
+    verdict(last, plan);
 }
