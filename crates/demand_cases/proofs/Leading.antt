@@ -11,7 +11,7 @@ use Rattle.areas.specs.Areas.{areaSize}
 use Rattle.answers.specs.Classes.Class.{performed}
 use Rattle.answers.specs.Answers.{Said, said}
 use Rattle.record.specs.Answers.{saidOf}
-use Rattle.record.specs.Given.{at, beginning}
+use Rattle.record.specs.Given.{beginning}
 use Rattle.record.specs.declared.Outcome.the-variants.{Waiting, Done}
 use Rattle.step_opens.specs.Opening.{opening}
 use Rattle.step_ends.specs.Ending.{afterCommit}

@@ -1,5 +1,5 @@
 -- Document 01, "Open": "accepted payload copied, all else as after a commit"; and after both recoveries, alike. Assumes nothing.
-use Prim.Native.Nat.{ℕ, _+_}
+use Prim.Native.Nat.{ℕ}
 use mathlib.Core.Path.{_≡_, refl, sym, subst}
 use mathlib.Core.Bool.{true}
 use mathlib.Core.List.{List, []}
