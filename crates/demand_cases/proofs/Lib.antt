@@ -3,6 +3,7 @@ pub mod Exhibits
 pub mod Computing
 pub mod Courses
 pub mod Leading
+pub mod LastCount
 pub mod Stored
 pub mod LoggedExhibit
 pub mod HeldExhibit
