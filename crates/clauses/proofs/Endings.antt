@@ -1,5 +1,4 @@
--- `commit`, `recover`, `recover_with`, `refresh`, `save_stamp` and `accepts_save`, clause by clause, and which error a recovery gives.
--- Assumes nothing.
+-- `commit`, `recover` and `recover_with`, clause by clause, and which error a recovery gives. Assumes nothing.
 use Prim.Native.Nat.{ℕ, _≤_}
 use mathlib.Core.{Path._≡_, Path.refl, Path.ap, Bool.true, Bool.false, Bool.not, List.List, List.[], Logic._≢_, Logic._↔_}
 use native.Mathlib.Omega.{arith}

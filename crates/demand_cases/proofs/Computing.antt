@@ -81,7 +81,7 @@ unfoldable pub heldSeen : Held → List Doing → Watch
 unfolding heldAfter heardHeld W.hearsReport sees watch unwatched
 heldSeen h ds = watch unwatched (heardHeld h ds)
 
--- from an opening at revision 7 and serial 0, with a payload of 3 bytes, which is not refused
+-- from an opening at revision 7, serial 0 and 2 replacements, with a payload of 3 bytes, which is not refused
 abbrev pub start : Record
 start = openStep true (at 7 0 2) 3 .state
 

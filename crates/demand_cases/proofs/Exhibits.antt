@@ -1,4 +1,5 @@
--- A whole record for every phase 0 to 13, for each kind of live ticket, and idle: no definition is met by nothing. Assumes nothing.
+-- A whole record for every phase 0 to 13, for each kind of live ticket, and idle: no definition is met by nothing. And the record that a
+-- refused opening returns, field by field. Assumes nothing.
 use Prim.Native.Nat.{ℕ}
 use mathlib.Core.Path.{_≡_, refl}
 use mathlib.Core.Bool.{Bool, true, false, _&&_}
@@ -10,7 +11,7 @@ use Rattle.record.specs.declared.Record.{Record}
 use Rattle.tickets.specs.declared.Live.{Live}
 use Rattle.tickets.specs.declared.Live.the-variants.{None, Structure, Update, Rollback}
 use Rattle.wholeness.specs.Whole.{whole}
-use Rattle.step_opens.specs.Opening.{opening}
+use Rattle.step_opens.specs.Opening.{opening, openStep}
 use Rattle.demand_cases.proofs.Computing.{called}
 
 -- a staged record at serial 1: phase, forward, back; entries, applied, attempted, restoring; the live ticket
@@ -63,3 +64,24 @@ kinds-whole = refl
 pub kinds-all : map (λ (r : Record). workOf (r .live)) kinds ≡ 0 ∷ 1 ∷ 2 ∷ 3 ∷ []
 unfolding kinds staged opening
 kinds-all = refl
+
+-- "the record of an opening at 0, 0 with an empty payload", and by request 3 with no replacement, whatever was given
+pub unopened-met : openStep false (at 7 5 2) 3 .state ≡ record {
+  revision = 0;
+  serial = 0;
+  replacements = 0;
+  accepted = 0;
+  candidate = 0;
+  recovery = 0;
+  staged = false;
+  phase = record { number = 0 };
+  forward = 0;
+  back = 0;
+  entries = 0;
+  applied = 0;
+  attempted = 0;
+  restoring = false;
+  live = None;
+}
+unfolding called
+unopened-met = refl

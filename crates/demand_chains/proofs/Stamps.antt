@@ -70,17 +70,25 @@ same-by b x y u v c n h k m = test (eqb n 0)
     (λ (e : eqb n 0 ≡ true). rw (eq-eqb x y (omega tests), eq-eqb u v (omega tests), e) (sym (and-true (b and true))))
     (λ (e : eqb n 0 ≡ false). no-right (b and eqb x y) (ne-eqb u v (λ (i : u ≡ v). eqb-ne n 0 e (omega tests))) ∙ sym (no-right b e))
 
-pub stamp-law : (r : Record) (d : ℕ) (s : SaveStamp) (ss : List Sent) (e : ℕ) → Typed (standing r) → saidOf (step r (stamp d)) ≡ saysStamping (Taken s) →
-    let w = watch unwatched (heardSent r ss) in
-    saidOf (step (afterSent r ss) (check e s)) ≡ said performed (pick (stampPasses (w .running) e d (w .replacements)) 1 0 ∷ [])
-unfolding passes unwatched stampPasses
-stamp-law r d s ss e m h =
-    let t = stamped r d s h in
-    let g = chain-gains unwatched r ss in
-    let k = chain-counts unwatched r ss in
-    let v = chain-covers unwatched r ss in
-    let w : Watch = watch unwatched (heardSent r ss) in
-    let q : Record = afterSent r ss in
-    rw (t .is) (checked q e (stampOf d r) (whole-chain r ss m (t .is-whole)))
-    ∙ ap (λ (b : Bool). said performed (pick (not b and eqb e d and eqb (q .revision) (r .revision) and eqb (q .replacements) (r .replacements)) 1 0 ∷ [])) (sym (chain-runs unwatched r ss (sym (t .idle))))
-    ∙ ap (λ (b : Bool). said performed (pick b 1 0 ∷ [])) (same-by _ (q .revision) _ (q .replacements) _ (w .commits) (w .replacements) (omega arith) (omega arith) (omega arith))
+module _ (r : Record) (d : ℕ) (s : SaveStamp) (ss : List Sent) (e : ℕ) (m : Typed (standing r)) (h : saidOf (step r (stamp d)) ≡ saysStamping (Taken s)) where
+  -- what the watcher knows who hears the calls since
+  abbrev w : Watch
+  w = watch unwatched (heardSent r ss)
+
+  pub since-whole : whole (afterSent r ss) ≡ true
+  since-whole = whole-chain r ss m (stamped r d s h .is-whole)
+
+  pub since-passes : passes (afterSent r ss) e s ≡ stampPasses (w .running) e d (w .replacements)
+  unfolding passes unwatched stampPasses
+  since-passes =
+      let t = stamped r d s h in
+      let g = chain-gains unwatched r ss in
+      let k = chain-counts unwatched r ss in
+      let v = chain-covers unwatched r ss in
+      let q : Record = afterSent r ss in
+      ap (passes q e) (t .is)
+      ∙ ap (λ (b : Bool). not b and eqb e d and eqb (q .revision) (r .revision) and eqb (q .replacements) (r .replacements)) (sym (chain-runs unwatched r ss (sym (t .idle))))
+      ∙ same-by _ (q .revision) _ (q .replacements) _ (w .commits) (w .replacements) (omega arith) (omega arith) (omega arith)
+
+  pub stamp-law : saidOf (step (afterSent r ss) (check e s)) ≡ said performed (pick (stampPasses (w .running) e d (w .replacements)) 1 0 ∷ [])
+  stamp-law = checked (afterSent r ss) e s since-whole ∙ ap (λ (b : Bool). said performed (pick b 1 0 ∷ [])) since-passes

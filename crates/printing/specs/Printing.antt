@@ -1,5 +1,6 @@
 -- The texts of the lines that programs write. The words and the order of the numbers are those of the driver's page: "each writes its
--- answer's number, then its values"; "`record` with its fifteen numbers as above". Assumes nothing.
+-- answer's number, then its values"; "`record` with its fifteen numbers as above", and by request 3
+-- "a sixteenth number at its end". Assumes nothing.
 use Prim.Native.Nat.{ℕ}
 use mathlib.Core.List.{List, [], _∷_}
 use lib.ListN.{take}

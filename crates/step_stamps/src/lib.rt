@@ -24,7 +24,7 @@ pub enum Checked {
     Refused(Refusal),
 }
 
-// A stamp of the accepted revision.
+// A stamp of the settings in force: their revision, and how often they were replaced.
 pub fn stamp(r: Record, domain: u64) -> Stamping
     ensures { λ s. ⌜ saysStamping s ≡ stampStep r domain ⌝ }
 {

@@ -11,6 +11,9 @@ use lib.ListN.{length, getD}
 use borrow.Author.Tests.{le-ltb}
 use Rattle.choice.specs.Pick.{pick}
 use Rattle.choice.proofs.Tests.{either, never}
+use Rattle.wholeness.specs.Whole.{whole}
+use Rattle.step_stamps.specs.Stamping.{passes}
+use Rattle.tail_answers.specs.declared.TailRefusal.the-variants.{Unstamped}
 use Rattle.tail_answers.specs.declared.Finding.{Finding}
 use Rattle.tail_answers.specs.declared.Finding.the-variants as F
 use Rattle.tail_table.specs.Table.{fileOf, same, stands, savedOf, zeroes}
@@ -67,6 +70,11 @@ module _ {words : List ℕ} {used : ℕ} {us : List Tail} (v : Leaves words used
   pub same-where-saved : Holds c → stands us f ≡ true → (offset : ℕ) → savedOf us f ≡ offset → offset ≤ size → findOf words used f size c ≡ F.Same offset
   unfolding pick
   same-where-saved h s offset e l = looks-up v f size c h ∙ simp (s, e, le-ltb size offset l)
+
+  -- under a stamp that does not pass nothing is found: 35
+  pub unfound-unstamped : whole (c .record) ≡ true → passes (c .record) (c .domain) (c .stamp) ≡ false → findOf words used f size c ≡ F.Refused Unstamped
+  unfolding pick
+  unfound-unstamped w p = find-in v f size c ∙ simp (w, p)
 
   -- and what is found stays, for any claim, where neither the pair nor its offset changed
   pub still-found : {words′ : List ℕ} {used′ : ℕ} {us′ : List Tail} → Leaves words′ used′ us′ → stands us′ f ≡ stands us f → savedOf us′ f ≡ savedOf us f → findOf words′ used′ f size c ≡ findOf words used f size c

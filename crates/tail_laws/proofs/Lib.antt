@@ -5,3 +5,4 @@ pub mod Chains
 pub mod Findings
 pub mod Afterwards
 pub mod Unique
+pub mod Stamped
