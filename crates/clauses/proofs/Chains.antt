@@ -13,7 +13,8 @@ use Rattle.completeness.specs.Complete.{complete}
 use Rattle.step_opens.specs.Opening.{openStep}
 use Rattle.calls.specs.{Calls.step, Calls.Call.commit, Calls.Call.recover}
 use Rattle.demand_steps.specs.Typed.{Typed}
-use Rattle.demand_steps.specs.Watching.{Item, Watch, watch, unwatched}
+use Rattle.demand_steps.specs.Knowing.{Item, Watch, unwatched}
+use Rattle.demand_steps.specs.Watching.{watch}
 use Rattle.demand_steps.proofs.{Facts.Stage, Facts.tests, Facts.Behind, Facts.byCase, Testing.ranges, Calming.range, Wholeness.whole-test}
 use Rattle.demand_steps.proofs.Facts.Stage.{flat, flatBack, before, updating, after, undoing, backing}
 use Rattle.demand_chains.specs.{Sending.Sent, Sending.afterSent, Sending.heardSent, Plans.planAt, Plans.plannedBack, Plans.backAt, Plans.firsts}

@@ -15,8 +15,9 @@ use Rattle.step_rollbacks.specs.Rollbacks.{turned}
 use Rattle.step_structure.specs.Structure.{storing}
 use Rattle.calls.specs.{Calls.Report, Calls.Call, Calls.Report.structured, Calls.Report.updated, Calls.Report.rolledBack}
 use Rattle.demand_steps.specs.Typed.{Typed}
-use Rattle.demand_steps.specs.Watching.{Item, Watch, isFor, sees, watch, unwatched}
-use Rattle.demand_steps.specs.Watching.Item.{settle, apply, undo}
+use Rattle.demand_steps.specs.Knowing.{Item, Watch, unwatched}
+use Rattle.demand_steps.specs.Watching.{isFor, sees, watch}
+use Rattle.demand_steps.specs.Knowing.Item.{settle, apply, undo}
 use Rattle.demand_steps.proofs.{Facts.Whole, Facts.byCase, Testing.ranges, Wholeness.successor-test, Tickets.is-live, Tickets.onStructure, Tickets.onUpdate, Tickets.onRollback}
 use Rattle.demand_steps.proofs.{Moves.Along, Moves.goes-up, Moves.goes-down, Moves.inAlong, Moves.Along.start, Moves.Along.close, Moves.Along.back, Leaf.Leaf}
 use Rattle.demand_steps.proofs.Leaf.Leaf.{kept, began, structureAsked, updateEnded, updateAsked, rollbackEnded, turnedEmpty, turnedAsked, waited, went, updateTaken, undoTaken}

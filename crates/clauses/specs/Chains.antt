@@ -6,8 +6,8 @@ use mathlib.Core.List.{List, [], _∷_, _++_}
 use lib.ListN.{take}
 use Rattle.phases.specs.Phases.{remove, settleRemoved, mount, settleMounted, adopt, recoverRemove, recoverSettleRemoved, recoverMount, recoverSettleMounted}
 use Rattle.record.specs.declared.Record.{Record}
-use Rattle.demand_steps.specs.Watching.{Item, Watch}
-use Rattle.demand_steps.specs.Watching.Item.{settle, apply, undo, unknown}
+use Rattle.demand_steps.specs.Knowing.{Item, Watch}
+use Rattle.demand_steps.specs.Knowing.Item.{settle, apply, undo, unknown}
 use Rattle.demand_chains.specs.Plans.{plannedBack, backAt, firsts}
 
 -- C36, C37: `forward_stages()` and `recovery_stages()`

@@ -36,11 +36,11 @@ pub record OpenClauses (sizes : Bool) (given : Opening) (l : ℕ) (t : Told) : T
   -- stronger: the whole record, in which all else is 0, false or none
   pub c111-record : t .class ≡ performed → t .state ≡ opening given l
 
--- neither number of an opening that is raised is at its maximum
+-- neither the revision nor, by request 3, the count of replacements is at its maximum
 abbrev pub Room : Record → Type 0
 Room r = (r .revision ≢ top) × (r .replacements ≢ top)
 
--- when a begin is ok: not staged, `version() < u64::MAX`, by request 3 so the count of replacements, and none of 14, 15 and 9
+-- when a begin is ok: not staged, `version() < u64::MAX` and the count below its maximum too, and none of 14, 15 and 9
 pub record CanBegin (r : Record) (b : Beginning) : Type 0 where
   pub idle : r .staged ≡ false
   pub room : Room r

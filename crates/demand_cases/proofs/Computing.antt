@@ -39,7 +39,8 @@ use Rattle.demand_logs.specs.Logged.{Logged, loggedStep, logged, events}
 use Rattle.demand_logs.specs.Holding.{Held, Doing, afterHeld, heardHeld}
 use Rattle.demand_chains.specs.Sending.{Sent, answered, afterSent, heardSent}
 use Rattle.demand_steps.specs.Watching as W
-use Rattle.demand_steps.specs.Watching.{Heard, Watch, sees, watch, unwatched}
+use Rattle.demand_steps.specs.Knowing.{Heard, Watch, unwatched}
+use Rattle.demand_steps.specs.Watching.{sees, watch}
 use Rattle.demand_chains.specs.DemandThree.{DemandThree}
 use Rattle.demand_chains.proofs.Theorems.{demands}
 

@@ -19,7 +19,7 @@ use Rattle.calls.specs.Calls.Report.{structured, updated, rolledBack}
 use Rattle.calls.specs.Calls.Call.{begin, ask, report, edit, commit, recover, recoverRetained}
 use Rattle.demand_chains.specs.Sending.{Sent, plainly}
 use Rattle.demand_steps.specs.Typed.{Typed}
-use Rattle.demand_steps.specs.Watching.Item.{settle, apply, undo}
+use Rattle.demand_steps.specs.Knowing.Item.{settle, apply, undo}
 use Rattle.demand_chains.specs.Plans.{due}
 use Rattle.demand_chains.specs.Promises.{Asking}
 use Rattle.demand_chains.proofs.OneDue.{one-due}

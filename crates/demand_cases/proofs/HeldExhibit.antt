@@ -20,8 +20,8 @@ use Rattle.calls.specs.Calls.{Call}
 use Rattle.calls.specs.Calls.Work.{update}
 use Rattle.calls.specs.Lending.{Lending, leavesOf, unopened}
 use Rattle.noting.specs.Through.{leavesThrough}
-use Rattle.demand_steps.specs.Watching.{Heard}
-use Rattle.demand_steps.specs.Watching.Item.{apply}
+use Rattle.demand_steps.specs.Knowing.{Heard}
+use Rattle.demand_steps.specs.Knowing.Item.{apply}
 use Rattle.demand_chains.specs.Promises.{stampPasses}
 use Rattle.demand_chains.specs.DemandThree.{DemandThree}
 use Rattle.demand_logs.specs.Holding.{Held, Doing, holding, heardHeld}

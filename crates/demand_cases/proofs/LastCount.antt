@@ -22,7 +22,7 @@ use Rattle.step_stamps.specs.declared.SaveStamp.{SaveStamp}
 use Rattle.step_stamps.specs.declared.Checked.the-variants.{Passes, Fails}
 use Rattle.calls.specs.Calls.{Call}
 use Rattle.calls.specs.Calls.Call.{begin, commit, recover, recoverRetained, refresh, stamp, check}
-use Rattle.demand_steps.specs.Watching.{unwatched}
+use Rattle.demand_steps.specs.Knowing.{unwatched}
 use Rattle.demand_chains.specs.Sending.{Sent, plainly}
 use Rattle.demand_chains.specs.Promises.{stampPasses}
 use Rattle.demand_chains.proofs.Theorems.{stamps-anywhere}

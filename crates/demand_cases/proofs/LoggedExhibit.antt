@@ -23,7 +23,7 @@ use Rattle.calls.specs.Calls.Work.{structure, update}
 use Rattle.calls.specs.Calls.Report.{updated}
 use Rattle.calls.specs.Calls.Call.{begin, ask, report, edit, commit, stamp}
 use Rattle.calls.specs.Lending.{Lending, unopened}
-use Rattle.demand_steps.specs.Watching.{Heard}
+use Rattle.demand_steps.specs.Knowing.{Heard}
 use Rattle.demand_logs.specs.Logged.{Logged, logged, events}
 use Rattle.demand_logs.proofs.LoggedSteps.{log-full-changes-nothing}
 use Rattle.demand_logs.proofs.LoggedChains.{Same, same-chain, logged-chain}

@@ -15,8 +15,8 @@ use Rattle.calls.specs.Calls.Work.{update, rollback}
 use Rattle.calls.specs.Calls.Report.{updated, rolledBack}
 use Rattle.calls.specs.Calls.Call.{ask, report, commit, recover, recoverRetained}
 use Rattle.demand_chains.specs.Sending.{Sent, plainly}
-use Rattle.demand_steps.specs.Watching.{Watch}
-use Rattle.demand_steps.specs.Watching.Item.{settle, apply, undo}
+use Rattle.demand_steps.specs.Knowing.{Watch}
+use Rattle.demand_steps.specs.Knowing.Item.{settle, apply, undo}
 use Rattle.demand_chains.specs.Plans.{due}
 use Rattle.demand_chains.specs.Starting.{watchOf}
 use Rattle.demand_chains.specs.Promises.{Asking}

@@ -1,4 +1,5 @@
--- Document 01, "Cases on each side", with P1 and P12 as request 3 has them: P1 to P12, each a record to start from and what the calls on it answer. Assumes nothing.
+-- Document 01, "Cases on each side", with P1 and P12 as request 3 has them: P1 to P12, each a record to start from and what the calls
+-- on it answer. Assumes nothing.
 use Prim.Native.Nat.{ℕ}
 use mathlib.Core.Bool.{Bool, true, false, _&&_}
 use mathlib.Core.List.{List, [], _∷_, _++_}

@@ -12,7 +12,7 @@ use Rattle.record.specs.declared.Record.{Record}
 use Rattle.calls.specs.Calls.{Call}
 use Rattle.calls.specs.Calls.Work.{structure, update, rollback}
 use Rattle.calls.specs.Calls.Call.{ask}
-use Rattle.demand_steps.specs.Watching.{Watch}
+use Rattle.demand_steps.specs.Knowing.{Watch}
 use Rattle.demand_chains.specs.Plans.{planned, plannedBack, due}
 use Rattle.demand_chains.specs.Promises.{Asking}
 use Rattle.demand_steps.proofs.Leaf.{Apart}

@@ -9,7 +9,8 @@ use Rattle.wholeness.specs.Whole.{whole}
 use Rattle.calls.specs.Calls.{Call, step}
 use Rattle.demand_chains.specs.Sending.{Sent, afterSent, heardSent}
 use Rattle.demand_steps.specs.Typed.{Typed}
-use Rattle.demand_steps.specs.Watching.{Watch, sees, watch, unwatched}
+use Rattle.demand_steps.specs.Knowing.{Watch, unwatched}
+use Rattle.demand_steps.specs.Watching.{sees, watch}
 use Rattle.demand_steps.proofs.Own.{own, whole-step}
 use Rattle.demand_steps.proofs.Leaf.{Leaf}
 use Rattle.demand_steps.proofs.Classify.{leaf}

@@ -9,8 +9,8 @@ use borrow.Author.Tests.{lt-ltb, le-ltb}
 use Rattle.choice.specs.Pick.{pick}
 use Rattle.tickets.specs.declared.Live.{Live}
 use Rattle.tickets.specs.declared.Live.the-variants.{None, Structure, Update, Rollback}
-use Rattle.demand_steps.specs.Watching.{Item}
-use Rattle.demand_steps.specs.Watching.Item.{settle, apply, undo}
+use Rattle.demand_steps.specs.Knowing.{Item}
+use Rattle.demand_steps.specs.Knowing.Item.{settle, apply, undo}
 use Rattle.demand_chains.specs.Plans.{planAt, backAt, firsts}
 use Rattle.demand_steps.proofs.Facts.{tests}
 use Rattle.demand_steps.proofs.Moves.{Batch, Along}

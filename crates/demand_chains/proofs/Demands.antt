@@ -2,7 +2,7 @@
 use mathlib.Core.Path.{_≡_}
 use Rattle.record.specs.declared.Record.{Record}
 use Rattle.record.specs.declared.Opening.{Opening}
-use Rattle.demand_steps.specs.Watching.{Watch}
+use Rattle.demand_steps.specs.Knowing.{Watch}
 use Rattle.demand_chains.specs.Promises.{revisionAfter, replacementsAfter}
 use Rattle.demand_chains.specs.DemandThree.{DemandThree}
 use Rattle.demand_chains.proofs.Chain.{Good}

@@ -17,7 +17,7 @@ use Rattle.step_ends.specs.Ending.{commitOwn}
 use Rattle.step_recoveries.specs.Recovering.{unrestored, recoverRetainedOwn}
 use Rattle.calls.specs.Calls.{step}
 use Rattle.calls.specs.Calls.Call.{commit, recoverRetained}
-use Rattle.demand_steps.specs.Watching.{Item, Watch}
+use Rattle.demand_steps.specs.Knowing.{Item, Watch}
 use Rattle.demand_chains.specs.Plans.{planned, plannedBack, firsts}
 use Rattle.demand_chains.specs.Promises.{Forward, Backward}
 use Rattle.demand_steps.proofs.Own.{own}

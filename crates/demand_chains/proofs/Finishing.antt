@@ -11,7 +11,8 @@ use Rattle.record.specs.Fields.{top}
 use Rattle.record.specs.declared.Record.{Record}
 use Rattle.calls.specs.Calls.{Call, step}
 use Rattle.demand_chains.specs.Chains.{after, heard}
-use Rattle.demand_steps.specs.Watching.{Watch, watch}
+use Rattle.demand_steps.specs.Knowing.{Watch}
+use Rattle.demand_steps.specs.Watching.{watch}
 use Rattle.demand_chains.specs.Progress.{counted, wanted, worked, Finishes}
 use Rattle.demand_chains.proofs.Chain.{Good}
 use Rattle.demand_chains.proofs.Exactly.{forward-law, backward-law}

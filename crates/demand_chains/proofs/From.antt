@@ -13,7 +13,8 @@ use Rattle.tickets.specs.declared.Live.the-variants.{None, Structure, Update, R
 use Rattle.wholeness.specs.Whole.{whole}
 use Rattle.demand_chains.specs.Sending.{Sent, afterSent, heardSent}
 use Rattle.demand_steps.specs.Typed.{Typed}
-use Rattle.demand_steps.specs.Watching.{Watch, watch}
+use Rattle.demand_steps.specs.Knowing.{Watch}
+use Rattle.demand_steps.specs.Watching.{watch}
 use Rattle.demand_chains.specs.Starting.{liveItem, doneOf, undoneOf, startedOf, watchOf}
 use Rattle.demand_chains.specs.DemandThree.{DemandThree}
 use Rattle.demand_steps.proofs.Facts.{Whole, Tick}

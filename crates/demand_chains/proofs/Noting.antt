@@ -15,8 +15,9 @@ use Rattle.record.specs.declared.Record.{Record}
 use Rattle.step_structure.specs.Structure.{advanced, storing}
 use Rattle.calls.specs.Calls.{Report}
 use Rattle.calls.specs.Calls.Report.{structured}
-use Rattle.demand_steps.specs.Watching.{Watch, isFor, lists, hearsReport}
-use Rattle.demand_steps.specs.Watching.Item.{settle}
+use Rattle.demand_steps.specs.Knowing.{Watch, lists}
+use Rattle.demand_steps.specs.Watching.{isFor, hearsReport}
+use Rattle.demand_steps.specs.Knowing.Item.{settle}
 use Rattle.demand_steps.proofs.Leaf.{Apart}
 use Rattle.demand_steps.proofs.Facts.{Whole, byCase}
 use Rattle.demand_steps.proofs.Testing.{ranges}

@@ -26,7 +26,8 @@ use Rattle.calls.specs.Calls.Work.{structure, update, rollback}
 use Rattle.calls.specs.Calls.Call.{ask}
 use Rattle.demand_chains.specs.Chains.{heard}
 use Rattle.demand_steps.specs.Watching as W
-use Rattle.demand_steps.specs.Watching.{Item, Watch, hearsReport, sees, watch}
+use Rattle.demand_steps.specs.Knowing.{Item, Watch}
+use Rattle.demand_steps.specs.Watching.{hearsReport, sees, watch}
 use Rattle.demand_chains.specs.Plans.{due}
 use Rattle.demand_chains.specs.Progress.{DoneReport, counted, wanted, MovesOn, Progress}
 use Rattle.demand_chains.specs.Progress.DoneReport.{forStructure, forUpdate, forRollback}

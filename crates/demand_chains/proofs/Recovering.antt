@@ -15,7 +15,7 @@ use Rattle.answers.specs.declared.Refusal.the-variants.{Idle, NotReady, LongSna
 use Rattle.step_recoveries.specs.Recovering.{unrestored, recoverOwn, recoverRetainedOwn}
 use Rattle.calls.specs.Calls.{step}
 use Rattle.calls.specs.Calls.Call.{recover, recoverRetained}
-use Rattle.demand_steps.specs.Watching.{Item, Watch}
+use Rattle.demand_steps.specs.Knowing.{Item, Watch}
 use Rattle.demand_chains.specs.Turning.{Recoveries, back, untouched}
 use Rattle.demand_steps.proofs.Own.{own}
 use Rattle.demand_steps.proofs.Facts.{Stage, Whole, tests, byCase}

@@ -20,7 +20,8 @@ use Rattle.step_structure.specs.Structure.{advanced}
 use Rattle.record.specs.Given.{opening}
 use Rattle.calls.specs.Calls.{Report, Call}
 use Rattle.demand_chains.specs.Sending.{Sent, afterSent, heardSent}
-use Rattle.demand_steps.specs.Watching.{Watch, hearsReport, sees, watch}
+use Rattle.demand_steps.specs.Knowing.{Watch}
+use Rattle.demand_steps.specs.Watching.{hearsReport, sees, watch}
 use Rattle.demand_steps.proofs.Keeping.{report-keeps, onward-keeps}
 use Rattle.demand_steps.proofs.Leaf.{Leaf}
 use Rattle.demand_steps.proofs.Leaf.Leaf.{kept, began, structureAsked, updateEnded, updateAsked, rollbackEnded, turnedEmpty, turnedAsked, waited, went, updateTaken, undoTaken, committed, recovered, restored, refreshed}

@@ -18,7 +18,8 @@ use Rattle.step_structure.specs.Structure.{advanced}
 use Rattle.calls.specs.Calls.{Call, step}
 use Rattle.calls.specs.Kinds.{kindOf, stepKind}
 use Rattle.demand_chains.specs.Chains.{after, heard}
-use Rattle.demand_steps.specs.Watching.{Watch, watch}
+use Rattle.demand_steps.specs.Knowing.{Watch}
+use Rattle.demand_steps.specs.Watching.{watch}
 use Rattle.demand_chains.specs.Plans.{due}
 use Rattle.demand_chains.specs.Promises.{Asking}
 use Rattle.demand_chains.specs.Progress.{DoneReport, counted, wanted, worked}

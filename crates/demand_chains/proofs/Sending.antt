@@ -17,7 +17,8 @@ use Rattle.wholeness.specs.Whole.{whole}
 use Rattle.log.specs.Log.{full}
 use Rattle.noting.specs.Recorded.{recorded}
 use Rattle.calls.specs.Calls.{Call, step}
-use Rattle.demand_steps.specs.Watching.{Heard, hears, Watch, sees, watch}
+use Rattle.demand_steps.specs.Knowing.{Heard, hears, Watch}
+use Rattle.demand_steps.specs.Watching.{sees, watch}
 use Rattle.demand_chains.specs.Chains.{after, heard}
 use Rattle.demand_chains.specs.Sending.{Sent, plainly, answered, afterSent, heardSent}
 use Rattle.demand_steps.proofs.Own.{own, answers}

@@ -27,7 +27,8 @@ use Rattle.calls.specs.Calls.{step}
 use Rattle.calls.specs.Calls.Call.{stamp, check}
 use Rattle.demand_chains.specs.Sending.{Sent, afterSent, heardSent}
 use Rattle.demand_steps.specs.Typed.{Typed}
-use Rattle.demand_steps.specs.Watching.{Watch, watch, unwatched}
+use Rattle.demand_steps.specs.Knowing.{Watch, unwatched}
+use Rattle.demand_steps.specs.Watching.{watch}
 use Rattle.demand_chains.specs.Promises.{stampPasses}
 use Rattle.demand_steps.proofs.Own.{own, whole-step, answers}
 use Rattle.demand_chains.proofs.Chain.{whole-chain}

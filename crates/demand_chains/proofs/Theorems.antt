@@ -28,7 +28,8 @@ use Rattle.calls.specs.Calls.{Call, step}
 use Rattle.calls.specs.Calls.Call.{stamp, check}
 use Rattle.demand_chains.specs.Sending.{Sent, afterSent, heardSent}
 use Rattle.demand_steps.specs.Typed.{Typed}
-use Rattle.demand_steps.specs.Watching.{Watch, watch, unwatched}
+use Rattle.demand_steps.specs.Knowing.{Watch, unwatched}
+use Rattle.demand_steps.specs.Watching.{watch}
 use Rattle.demand_chains.specs.Plans.{planned, plannedBack, due}
 use Rattle.demand_chains.specs.Promises.{stampPasses, revisionAfter, replacementsAfter, Forward, Backward, Asking}
 use Rattle.demand_chains.specs.Progress.{counted, wanted, Progress, Finishes}

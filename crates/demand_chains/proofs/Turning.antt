@@ -18,7 +18,8 @@ use Rattle.calls.specs.Calls.{Report, Call, step}
 use Rattle.calls.specs.Calls.Call.{commit}
 use Rattle.calls.specs.Kinds.{kindOf}
 use Rattle.demand_chains.specs.Sending.{Sent, answered, afterSent, heardSent}
-use Rattle.demand_steps.specs.Watching.{hears, Watch, hearsReport, sees, watch}
+use Rattle.demand_steps.specs.Knowing.{hears, Watch}
+use Rattle.demand_steps.specs.Watching.{hearsReport, sees, watch}
 use Rattle.demand_chains.specs.Turning.{recovers, recoveredIn, UntilRecovery}
 use Rattle.demand_steps.proofs.Own.{own, row}
 use Rattle.demand_steps.proofs.Leaf.{Leaf}

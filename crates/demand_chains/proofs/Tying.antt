@@ -16,8 +16,9 @@ use Rattle.step_rollbacks.specs.Rollbacks.{turned}
 use Rattle.record.specs.Given.{opening}
 use Rattle.calls.specs.Calls.{Call}
 use Rattle.calls.specs.Calls.Report.{updated, rolledBack}
-use Rattle.demand_steps.specs.Watching.{Watch, isFor, sees}
-use Rattle.demand_steps.specs.Watching.Item.{apply, undo}
+use Rattle.demand_steps.specs.Knowing.{Watch}
+use Rattle.demand_steps.specs.Watching.{isFor, sees}
+use Rattle.demand_steps.specs.Knowing.Item.{apply, undo}
 use Rattle.demand_steps.proofs.Leaf.{Goes, Leaf}
 use Rattle.demand_steps.proofs.Leaf.Goes.{last, more}
 use Rattle.demand_steps.proofs.Leaf.Leaf.{kept, began, structureAsked, updateEnded, updateAsked, rollbackEnded, turnedEmpty, turnedAsked, waited, went, updateTaken, undoTaken, committed, recovered, restored, refreshed}

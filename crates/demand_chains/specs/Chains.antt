@@ -2,7 +2,7 @@
 use mathlib.Core.List.{List, [], _∷_}
 use Rattle.record.specs.declared.Record.{Record}
 use Rattle.calls.specs.Calls.{Call, step}
-use Rattle.demand_steps.specs.Watching.{Heard, hears}
+use Rattle.demand_steps.specs.Knowing.{Heard, hears}
 
 -- "In one chain of calls, each given what the last left": the record after them
 unfoldable pub after : Record → List Call → Record

@@ -11,7 +11,8 @@ use Rattle.record.specs.declared.Record.{Record}
 use Rattle.record.specs.declared.Opening.{Opening}
 use Rattle.calls.specs.Calls.{Call}
 use Rattle.demand_chains.specs.Sending.{Sent, afterSent, heardSent}
-use Rattle.demand_steps.specs.Watching.{Watch, watch}
+use Rattle.demand_steps.specs.Knowing.{Watch}
+use Rattle.demand_steps.specs.Watching.{watch}
 use Rattle.demand_chains.specs.Plans.{planned, plannedBack, due}
 use Rattle.demand_chains.specs.Promises.{revisionAfter, replacementsAfter, Forward, Backward, Asking}
 use Rattle.demand_chains.specs.Progress.{counted, wanted, Progress, Finishes}

@@ -10,8 +10,8 @@ use Rattle.record.specs.declared.Record.{Record}
 use Rattle.calls.specs.Calls.{Call}
 use Rattle.calls.specs.Calls.Work.{structure, update, rollback}
 use Rattle.calls.specs.Calls.Call.{begin, ask, report, edit, commit, recover, recoverRetained, refresh, stamp, check}
-use Rattle.demand_steps.specs.Watching.{Item}
-use Rattle.demand_steps.specs.Watching.Item.{settle, apply, undo}
+use Rattle.demand_steps.specs.Knowing.{Item}
+use Rattle.demand_steps.specs.Knowing.Item.{settle, apply, undo}
 
 -- "5 + n Done reports that are taken (n if update-only)"
 abbrev pub planned : Bool → ℕ → ℕ

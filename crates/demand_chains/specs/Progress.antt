@@ -23,7 +23,8 @@ use Rattle.calls.specs.Calls.Report.{structured, updated, rolledBack}
 use Rattle.calls.specs.Calls.Call.{ask, report, commit, recoverRetained}
 use Rattle.calls.specs.Kinds.{kindOf, stepKind}
 use Rattle.demand_chains.specs.Chains.{after, heard}
-use Rattle.demand_steps.specs.Watching.{Watch, watch}
+use Rattle.demand_steps.specs.Knowing.{Watch}
+use Rattle.demand_steps.specs.Watching.{watch}
 use Rattle.demand_chains.specs.Plans.{planned, plannedBack}
 
 -- the report of a ticket that an asking was answered with: of its kind of work, Done, "payloads" of at most 4,096 bytes

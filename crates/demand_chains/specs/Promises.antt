@@ -11,7 +11,7 @@ use Rattle.record.specs.Fields.{top}
 use Rattle.record.specs.declared.Record.{Record}
 use Rattle.calls.specs.Calls.{Call, step}
 use Rattle.calls.specs.Calls.Call.{commit, recoverRetained}
-use Rattle.demand_steps.specs.Watching.{Watch}
+use Rattle.demand_steps.specs.Knowing.{Watch}
 use Rattle.demand_chains.specs.Plans.{planned, planAt, plannedBack, backAt, firsts, due}
 
 -- "a stamp taken in it passes exactly if nothing is staged, the domain is equal and", by request 3, "no commit, recovery or refresh has

@@ -11,7 +11,7 @@ use Rattle.step_opens.specs.Opening.{openStep}
 use Rattle.calls.specs.Calls.{Call, stepWith, AnyCall}
 use Rattle.calls.specs.Calls.AnyCall.{opens, calls}
 use Rattle.calls.specs.Kinds.{kindOf, writtenAs}
-use Rattle.demand_steps.specs.Watching.{Heard, hears}
+use Rattle.demand_steps.specs.Knowing.{Heard, hears}
 
 -- a call; whether all that it is lent has the right size, and, where it goes through a log, whether the log's head is sound and
 -- whether it is full

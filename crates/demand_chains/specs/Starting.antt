@@ -6,8 +6,8 @@ use lib.Dec.{leb}
 use Rattle.record.specs.declared.Record.{Record}
 use Rattle.tickets.specs.declared.Live.{Live}
 use Rattle.tickets.specs.declared.Live.the-variants.{None, Structure, Update, Rollback}
-use Rattle.demand_steps.specs.Watching.{Item, Watch}
-use Rattle.demand_steps.specs.Watching.Item.{settle, apply, undo, unknown}
+use Rattle.demand_steps.specs.Knowing.{Item, Watch}
+use Rattle.demand_steps.specs.Knowing.Item.{settle, apply, undo, unknown}
 use Rattle.demand_chains.specs.Plans.{planAt, backAt, firsts}
 
 abbrev pub liveItem : Live → Record → Item

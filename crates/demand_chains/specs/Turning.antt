@@ -13,7 +13,7 @@ use Rattle.log.specs.Kinds as kinds
 use Rattle.calls.specs.Calls.{step}
 use Rattle.calls.specs.Calls.Call.{commit, recover, recoverRetained}
 use Rattle.calls.specs.Kinds.{kindOf}
-use Rattle.demand_steps.specs.Watching.{Heard, Watch}
+use Rattle.demand_steps.specs.Knowing.{Heard, Watch}
 use Rattle.demand_chains.specs.Plans.{plannedBack}
 
 -- a recovery that is performed

@@ -24,7 +24,8 @@ use Rattle.calls.specs.Lending.{leavesOf, unopened}
 use Rattle.calls.specs.Lending.Lending.{openAt}
 use Rattle.noting.specs.Through.{leavesThrough}
 use Rattle.demand_steps.specs.Typed.{Typed}
-use Rattle.demand_steps.specs.Watching.{Heard, hears, Watch, watch, unwatched}
+use Rattle.demand_steps.specs.Knowing.{Heard, hears, Watch, unwatched}
+use Rattle.demand_steps.specs.Watching.{watch}
 use Rattle.demand_chains.specs.Sending.{Sent, answeredAny, afterSent, heardSent}
 use Rattle.demand_chains.specs.Promises.{stampPasses}
 use Rattle.demand_chains.specs.DemandThree.{DemandThree}

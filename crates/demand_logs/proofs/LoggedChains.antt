@@ -18,7 +18,7 @@ use Rattle.log.proofs.Room.{head-of}
 use Rattle.events.proofs.Entries.{entries-length}
 use Rattle.calls.specs.Calls.{Call, step}
 use Rattle.demand_steps.specs.Typed.{Typed}
-use Rattle.demand_steps.specs.Watching.{Heard, hears}
+use Rattle.demand_steps.specs.Knowing.{Heard, hears}
 use Rattle.demand_chains.specs.Chains.{after, heard}
 use Rattle.demand_logs.specs.Logged.{loggedStep, logged, events}
 use Rattle.demand_logs.proofs.LoggedSteps.{Kept, Sound, eventOf, kept, step-sound, step-length, refuses, logged-kept}

@@ -14,7 +14,7 @@ use Rattle.calls.specs.Calls.AnyCall.{opens, calls}
 use Rattle.calls.specs.Lending.{Stored, Lending, callOf, fits, leavesOf}
 use Rattle.noting.specs.Recorded.{withLog}
 use Rattle.noting.specs.Through.{leavesThrough}
-use Rattle.demand_steps.specs.Watching.{Heard, hears}
+use Rattle.demand_steps.specs.Knowing.{Heard, hears}
 use Rattle.demand_chains.specs.Sending.{Sent}
 
 pub record Held : Type 0 where

@@ -11,7 +11,8 @@ use Rattle.record.specs.Fields.{withPlace}
 use Rattle.record.specs.declared.Record.{Record}
 use Rattle.step_structure.specs.Structure.{onward}
 use Rattle.calls.specs.Calls.{Report}
-use Rattle.demand_steps.specs.Watching.{Item, Watch, lists, hearsReport}
+use Rattle.demand_steps.specs.Knowing.{Item, Watch, lists}
+use Rattle.demand_steps.specs.Watching.{hearsReport}
 
 -- of the watcher, a Done report changes the two lists alone
 pub report-keeps : {A : Type 0} (f : Watch → A) → ((d u : List Item) (w : Watch) → f (lists d u w) ≡ f w) → (of : Report) (t : ℕ) (a : Said) (w : Watch) →

@@ -11,7 +11,8 @@ use Rattle.answers.specs.declared.Refusal.{Refusal}
 use Rattle.calls.specs.Calls.{Report, Call}
 use Rattle.calls.specs.Calls.Work.{structure, update, rollback}
 use Rattle.calls.specs.Calls.Call.{begin, ask, report, edit, commit, recover, recoverRetained, refresh, stamp, check}
-use Rattle.demand_steps.specs.Watching.{Watch, hearsReport, sees}
+use Rattle.demand_steps.specs.Knowing.{Watch}
+use Rattle.demand_steps.specs.Watching.{hearsReport, sees}
 
 -- an answer to a call that moves nothing
 abbrev pub Unseen : Call → Said → Type 0

@@ -9,9 +9,13 @@ use Rattle.tail_table.specs.declared.Claim.{Claim}
 abbrev pub fileAt : ℕ → ℕ → File
 fileAt device inode = record { device = device; inode = inode }
 
--- the idle record of an opening at a revision and a count of replacements, and a stamp of the domain 0
+-- the idle record of an opening at a revision and a count of replacements, and a stamp of the domain 0 with its own two numbers
 abbrev pub claimAt : ℕ → ℕ → ℕ → ℕ → Claim
-claimAt v c sv sc = record { «record» = opening (at v 0 c) 0; domain = 0; stamp = record { domain = 0; revision = sv; replacements = sc } }
+claimAt revision replacements stamped counted = record {
+  «record» = opening (at revision 0 replacements) 0;
+  domain = 0;
+  stamp = record { domain = 0; revision = stamped; replacements = counted };
+}
 
 -- the offset to read on from, or the largest u64 where there is none
 abbrev pub offsetOr : Finding → ℕ

@@ -2,7 +2,6 @@
 -- found, whatever calls came between. Assumes nothing.
 use Prim.Native.Nat.{ℕ}
 use mathlib.Core.Path.{_≡_, _∙_}
-use mathlib.Core.Bool.{false}
 use mathlib.Core.List.{List}
 use mathlib.Core.Logic.{_≢_}
 use borrow.Author.Tests.{ne-eqb}
@@ -16,7 +15,8 @@ use Rattle.step_stamps.specs.declared.Stamping.the-variants.{Taken}
 use Rattle.calls.specs.Calls.{step}
 use Rattle.calls.specs.Calls.Call.{stamp}
 use Rattle.demand_steps.specs.Typed.{Typed}
-use Rattle.demand_steps.specs.Watching.{watch, unwatched}
+use Rattle.demand_steps.specs.Knowing.{unwatched}
+use Rattle.demand_steps.specs.Watching.{watch}
 use Rattle.demand_chains.specs.Sending.{Sent, afterSent, heardSent}
 use Rattle.demand_chains.specs.Promises.{stampPasses}
 use Rattle.demand_chains.proofs.Stamps.{since-whole, since-passes}
