@@ -29,6 +29,17 @@ build_oracle() { cargo build --release --offline --quiet --manifest-path oracle/
 # The kit's own loader, C library and emulator for this machine.
 kit_toolchain() { echo "$(dirname "$(dirname "$(readlink -f "$(command -v rt)")")")/on/$(uname -m)/toolchain"; }
 
+# Sets `program` to the words that run a Rattle program from the root. Programs are compiled for x86-64; on an Arm machine they run under
+# the kit's own emulator.
+program_of() { # NAME
+    local kit
+    program=("target/bin/$1")
+    if [ "$(uname -m)" != x86_64 ]; then
+        kit=$(kit_toolchain)
+        program=("$kit/bin/qemu-x86_64" "$kit/lib/ld-linux-x86-64.so.2" --library-path "$kit/lib" "target/bin/$1")
+    fi
+}
+
 # How many checks `rt` starts at a time. It waits for all that it started together: with one more of them than there are cores, few cores
 # wait for the longest. No more than `rt` starts by itself where there are many cores, since each needs memory.
 jobs() {

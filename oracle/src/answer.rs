@@ -21,6 +21,7 @@ pub enum Refusal {
     LongCandidate = 14,
     LongRecovery = 15,
     LongSnapshot = 16,
+    BadEvent = 17,
     TableFull = 31,
     Twice = 32,
     GoesBack = 33,
@@ -103,15 +104,27 @@ impl Answer {
     }
 
     pub fn with(self, values: &[u64]) -> Answered {
-        Answered { answer: self, values: values.to_vec() }
+        let mut kept = [0; Answered::VALUES];
+        kept[..values.len()].copy_from_slice(values);
+        Answered { answer: self, values: kept, count: values.len() }
     }
 }
 
 /// An answer with its values.
-#[derive(Clone, Debug, PartialEq, Eq)]
+#[derive(Clone, Copy, Debug, PartialEq, Eq)]
 pub struct Answered {
     pub answer: Answer,
-    pub values: Vec<u64>,
+    values: [u64; Answered::VALUES],
+    count: usize,
+}
+
+impl Answered {
+    /// The most values of an answer.
+    const VALUES: usize = 3;
+
+    pub fn values(&self) -> &[u64] {
+        &self.values[..self.count]
+    }
 }
 
 impl From<Refusal> for Answered {

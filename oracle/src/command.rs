@@ -5,9 +5,9 @@
 //! comment makes a `?` line; no field of the record is narrower here than a u64.
 
 mod calls;
-mod words;
+pub mod words;
 
-use crate::model::{Call, Record};
+use crate::model::{Given, Record};
 use crate::place::Place;
 use crate::sizes::LINE_MOST;
 use words::{number, numbers, payload, place, up_to, Words};
@@ -19,7 +19,7 @@ pub enum Command {
     Place(Record),
     /// The count of used tail records.
     Tails(u64),
-    Make(Call),
+    Make(Given),
     Show,
 }
 
@@ -39,7 +39,7 @@ pub fn command(line: &[u8]) -> Option<Command> {
         (b"record", row) => Command::Place(record(row)?),
         (b"tails", [count]) => Command::Tails(number(count)?),
         (b"show", []) => Command::Show,
-        (name, rest) => Command::Make(calls::call(name, rest)?),
+        (name, rest) => Command::Make(calls::given(name, rest)?),
     })
 }
 

@@ -6,6 +6,7 @@
 //! byte, what is written here. At the first difference the script is made as
 //! small as it can be, and shown with what either side writes.
 
+pub mod replays;
 pub mod shrink;
 mod sides;
 
@@ -100,7 +101,7 @@ fn summary(plan: &Plan, totals: &Totals, output: &mut dyn Write) -> io::Result<(
         plan.seeds,
         plan.first_seed,
         totals.lines,
-        totals.tally.calls(),
+        totals.tally.cells.calls(),
         totals.bad,
         totals.shows,
         totals.answers

@@ -3,6 +3,7 @@
 //!
 //! Written from documents 01 and 02 and the page on the driver's script alone.
 
+mod names;
 mod records;
 
 use crate::model::Opening;

@@ -3,6 +3,7 @@
 //!
 //! Written from documents 01 and 02 and the page on the driver's script alone.
 
+use crate::log;
 use crate::sizes::*;
 use std::fmt;
 
@@ -70,7 +71,7 @@ impl Place {
         match self {
             Place::Accepted | Place::Candidate | Place::Recovery | Place::Exchange => size == AREA,
             Place::Table => size == TABLE,
-            Place::Log => (LOG_LEAST..=LOG_MOST).contains(&size) && (size - LOG_HEAD) % EVENT == 0,
+            Place::Log => log::fits(size, EVENT),
             Place::Groups | Place::Status => (1..=IDS_MOST).contains(&size),
             Place::Tails => size <= TAILS_MOST && size % TAIL == 0,
         }

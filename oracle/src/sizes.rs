@@ -27,6 +27,17 @@ pub const LOG_LEAST: u64 = LOG_HEAD + EVENT;
 /// The most words of a log.
 pub const LOG_MOST: u64 = LOG_HEAD + EVENT * ROOM_MOST;
 
+/// Words of an event of the input log, which has the log's head.
+pub const INPUT_EVENT: u64 = 8;
+/// The most words of an input log.
+pub const INPUT_MOST: u64 = LOG_HEAD + INPUT_EVENT * ROOM_MOST;
+/// Bytes of a word in a file.
+pub const WORD_BYTES: u64 = 8;
+/// The most bytes of a file that holds an input log.
+pub const FILE_MOST: u64 = WORD_BYTES * INPUT_MOST;
+/// How many events a portion has where it is not said.
+pub const PORTION: u64 = ROOM_MOST;
+
 /// The most ids of the group and status bytes.
 pub const IDS_MOST: u64 = 256;
 

@@ -2,13 +2,22 @@
 
 mod answers;
 mod cases;
+mod events;
+mod programs;
 mod reaching;
+mod recordings;
+mod replays;
 mod requests;
+mod scripted;
 mod scripts;
 mod shrinking;
 mod tails;
 
+use crate::input::Event;
 use crate::model::{Claim, Opening, Record, Stamp};
+use crate::recording::full;
+use crate::replay::{replay, Ended};
+use crate::sizes::ROOM_MOST;
 use crate::{line, script};
 use std::borrow::Borrow;
 
@@ -53,4 +62,12 @@ fn stamped(revision: u64, replacements: u64) -> Claim {
 /// The record of an opening at 0, 0, 0, but staged.
 fn staged() -> Record {
     Record { staged: true, ..Record::default() }
+}
+
+/// The record and the answers after the events, and how the replay ended.
+fn replayed(events: &[Event], opening: Opening) -> (Record, Vec<u64>, Ended) {
+    let mut record = Record::opened(opening, 0);
+    let mut answers = vec![0; events.len().max(1)];
+    let ended = replay(&full(events), 0, &mut record, &mut answers, ROOM_MOST);
+    (record, answers, ended)
 }

@@ -22,7 +22,7 @@ pub fn shown(driver: &Driver) -> Vec<String> {
 /// An answer's number and its values.
 pub fn answer_text(answered: &Answered) -> String {
     let mut numbers = vec![answered.answer.number()];
-    numbers.extend_from_slice(&answered.values);
+    numbers.extend_from_slice(answered.values());
     join(&numbers)
 }
 

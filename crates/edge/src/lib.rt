@@ -1,5 +1,5 @@
-// For callers in C or Rust, under names of C's: copying and exchanging lent bytes, as `copies` and `areas` have it, and finding and moving
-// in a tail table, as `tails` has it. A slice crosses as the address of its first element and its length; numbers cross as they are, so
+// For callers in C or Rust, under names of C's: copying and exchanging lent bytes, as `copies` and `areas` have it, finding and moving
+// in a tail table, as `tails` has it, and replaying an input log, as `replays` has it. A slice crosses as the address of its first element and its length; numbers cross as they are, so
 // that a tail call is given the revision and the count of replacements of the settings, and the stamp's: the settings are idle, in the
 // domain 0.
 use record::Opening;
@@ -15,7 +15,7 @@ ghost use Rattle.areas.specs.Areas.{copied, exchanged};
 ghost use Rattle.tail_answers.specs.TailAnswers.{saysVerdict};
 ghost use Rattle.tail_table.specs.Table.{tailOf};
 ghost use Rattle.tail_table.specs.TailCalls.{findOf, moveOf};
-ghost use Rattle.edge.specs.Edge.{fileAt, claimAt, offsetOr};
+ghost use Rattle.edge.specs.Edge.{fileAt, claimAt, offsetOr, replayedAt};
 
 // All bytes of src over the first of dst, where they fit.
 #[no_mangle]
@@ -106,4 +106,27 @@ pub extern "C" fn edge_move_tail(
         Verdict::Done => 0,
         Verdict::Refused(why) => why.number(),
     }
+}
+
+// At most so many events of an input log, from the first on, are replayed from the record of an opening, with an accepted payload of a
+// length; it answers how many ran.
+#[no_mangle]
+pub extern "C" fn edge_replay(
+    words: &[u64],
+    revision: u64,
+    serial: u64,
+    replacements: u64,
+    length: usize,
+    answers: &mut [u64],
+    most: usize,
+) -> usize
+    ensures { λ n. ⌜ n ∷ now (answers .exit) ≡ replayedAt (now (words .entry)) revision serial replacements length (now (answers .entry)) most ⌝ }
+{
+    let opening = Opening {
+        revision: revision,
+        serial: serial,
+        replacements: replacements,
+    };
+    let done = replays::replay(words, 0, opening.opened(length), answers, most);
+    done.ran
 }

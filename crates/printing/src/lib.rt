@@ -10,7 +10,7 @@ ghost use Rattle.text.specs.Writing.{page, putAll};
 ghost use Rattle.printing.specs.Printing.{replyText, recordText};
 
 // The first n numbers, or all where there are fewer.
-fn front(numbers: &[u64], n: usize) -> &[u64]
+pub fn front(numbers: &[u64], n: usize) -> &[u64]
     ensures { λ r. ⌜ now r ≡ take n (now (numbers .entry)) ⌝ }
 {
     if n < numbers.len() {

@@ -1,21 +1,17 @@
 -- The templates of the commands, and what the driver's page says of a line before a command is looked for in it. Assumes nothing.
 use Prim.Native.Nat.{ℕ}
 use Prim.Native.Char.{code}
-use Prim.Native.String.{String, [] as endOfText, _∷_ as _⁏_}
+use Prim.Native.String.{String}
 use mathlib.Core.List.{List, [], _∷_, _++_}
 use lib.Dec.{eqb, ltb}
 use lib.ListN.{length, getD}
 use Rattle.choice.specs.Pick.{pick}
-use Rattle.text.specs.Writing.{newlineByte}
+use Rattle.text.specs.Writing.{newlineByte, bytesOf}
 use Rattle.templates.specs.Finding.{firstFitting}
 use Rattle.commands.specs.declared.Command.{Command}
 use Rattle.commands.specs.declared.Command.the-variants.{Nothing, Bad}
 
--- the bytes of a text, and of texts with a newline after each
-unfoldable pub bytesOf : String → List ℕ
-bytesOf endOfText = []
-bytesOf (c ⁏ text) = code c ∷ bytesOf text
-
+-- the bytes of texts with a newline after each
 unfoldable pub linesOf : List String → List ℕ
 linesOf [] = []
 linesOf (text ∷ rest) = bytesOf text ++ (newlineByte ∷ linesOf rest)

@@ -28,7 +28,7 @@ use denote.ArrayMemory.{Single, array-apart, array-whole}
 use denote.Index.{row, whole-in, whole-out}
 use denote.Steps.{peeks, only}
 use borrow.Table.Elements.{at, length-app, cut-app, join-app}
-use Rattle.tail_structs.proofs.Data.{Data}
+use Rattle.walks.proofs.Data.{Data}
 
 pub each-is : (R : RattleType) (D : Data R) (xs : List (R .Denot)) (us : List Val) → shadow (each (R .Denot) (R .own) xs us) → us ≡ map (D .low) xs
 each-is R D [] [] s = refl

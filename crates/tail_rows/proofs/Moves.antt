@@ -10,7 +10,8 @@ use denote.Struct.Laws as LL
 use Rattle.tail_answers.proofs.Verdict as O
 use Rattle.tail_table.specs.declared.Tail.{Tail}
 use Rattle.tail_table.proofs.Tail as T
-use Rattle.tail_structs.proofs.Data.{Data, tail}
+use Rattle.walks.proofs.Data.{Data}
+use Rattle.tail_structs.proofs.Data.{tail}
 use Rattle.tail_rows.specs.declared.Moved.{Moved}
 use Rattle.tail_rows.proofs.Front.{array-data}
 use Rattle.tail_rows.proofs.Moved as P

@@ -8,7 +8,8 @@ use denote.Builtin.{usize}
 use denote.Struct.Laws as LL
 use Rattle.tail_answers.proofs.Verdict as O
 use Rattle.tail_structs.specs.declared.Decision.{Decision}
-use Rattle.tail_structs.proofs.Data.{Data, verdict}
+use Rattle.walks.proofs.Data.{Data}
+use Rattle.tail_structs.proofs.Data.{verdict}
 use Rattle.tail_structs.proofs.Decision as P
 use Rattle.tail_structs.proofs.Decision.Laws as P′
 

@@ -1,5 +1,7 @@
 -- What is written to a buffer of which the first bytes are in use: bytes, texts, and numbers in decimal. Assumes nothing.
 use Prim.Native.Nat.{ℕ, zero, suc, _+_, _/_, _%_}
+use Prim.Native.Char.{code}
+use Prim.Native.String.{String, [] as endOfText, _∷_ as _⁏_}
 use mathlib.Core.List.{List, [], _∷_, _++_}
 use lib.Dec.{ltb}
 use lib.ListN.{length, set}
@@ -22,6 +24,11 @@ putByte p byte = pick (ltb (p .written) (length (p .bytes))) (page (set (p .byte
 unfoldable pub putAll : Page → List ℕ → Page
 putAll p [] = p
 putAll p (byte ∷ rest) = putAll (putByte p byte) rest
+
+-- the bytes of a text
+unfoldable pub bytesOf : String → List ℕ
+bytesOf endOfText = []
+bytesOf (c ⁏ text) = code c ∷ bytesOf text
 
 -- the byte of a newline in ASCII
 abbrev pub newlineByte : ℕ

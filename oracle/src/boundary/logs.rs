@@ -14,7 +14,7 @@ use std::io;
 pub(super) fn log_sizes(out: Out) -> io::Result<()> {
     writeln!(out, "# log sizes")?;
     let small = [1, LOG_HEAD - 1, LOG_HEAD, LOG_HEAD + 1].into_iter();
-    let least = (LOG_LEAST - 1..=LOG_LEAST + EVENT).chain([log::words(3)]);
+    let least = (LOG_LEAST - 1..=LOG_LEAST + EVENT).chain([log::words(3, EVENT)]);
     let most = [LOG_MOST - EVENT, LOG_MOST - 1, LOG_MOST, LOG_MOST + 1, LOG_MOST + EVENT];
     for words in small.chain(least).chain(most).chain([HELD_LOG]) {
         writeln!(out, "{}\n{}", line::lend(Place::Log, words), line::open_at(0, 0, "3:1"))?;
@@ -59,7 +59,7 @@ fn heads() -> Vec<[u64; LOG_HEAD as usize]> {
 }
 
 pub(super) fn log_heads(out: Out) -> io::Result<()> {
-    writeln!(out, "# log heads\n{}", line::lend(Place::Log, log::words(2)))?;
+    writeln!(out, "# log heads\n{}", line::lend(Place::Log, log::words(2, EVENT)))?;
     for head in heads() {
         for record in some_records() {
             for call in each_call() {
@@ -77,7 +77,7 @@ pub(super) fn log_heads(out: Out) -> io::Result<()> {
 pub(super) fn log_room(out: Out) -> io::Result<()> {
     writeln!(out, "# logs that become full")?;
     for (room, left) in [(1, 1), (2, 1), (ROOM_MOST, 1), (ROOM_MOST, 2)] {
-        writeln!(out, "{}", line::lend(Place::Log, log::words(room)))?;
+        writeln!(out, "{}", line::lend(Place::Log, log::words(room, EVENT)))?;
         writeln!(out, "{}", line::open_at(0, 0, "3:1"))?;
         writeln!(out, "{}", line::put(Place::Log, log::COUNT as u64, room - left))?;
         writeln!(out, "ask-structure\nask-structure\nshow\nask-rollback\nask-update")?;

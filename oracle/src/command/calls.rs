@@ -5,16 +5,25 @@
 
 use super::words::{flag, number, numbers, pairs, payload, Words};
 use crate::model::{
-    Call, Claim, File, Mark, Name, Opening, Outcome, Payloads, Stamp, Tail, Task, Work, CALLS,
+    actions, Call, Claim, File, Given, Goods, Mark, Name, Opening, Outcome, Payloads, Stamp, Tail,
+    Task, Work, CALLS,
 };
 
 /// The call of a word and of the words after it, if they are one.
-pub(super) fn call(word: &[u8], words: Words) -> Option<Call> {
+pub(super) fn given(word: &[u8], words: Words) -> Option<Given> {
     let name = CALLS.iter().find(|about| about.word.as_bytes() == word)?.name;
     match name {
         Name::Open => open(words),
         Name::Begin | Name::BeginStructural => begin(name, words),
         Name::ReportStructure | Name::ReportUpdate | Name::ReportRollback => report(name, words),
+        Name::Edit => edit(words),
+        _ => Some(Given { call: bare(name, words)?, goods: Goods::Nothing }),
+    }
+}
+
+/// The calls that copy nothing.
+fn bare(name: Name, words: Words) -> Option<Call> {
+    match name {
         Name::Check => claim(words).map(Call::Check),
         Name::Link | Name::Initialize | Name::Cancel => status(name, words),
         Name::AddTail | Name::RemoveTail => tail(name, words),
@@ -23,13 +32,12 @@ pub(super) fn call(word: &[u8], words: Words) -> Option<Call> {
     }
 }
 
-/// The calls of one word or none.
+/// Those of one word or none.
 fn simple(name: Name, words: Words) -> Option<Call> {
     Some(match (name, words) {
         (Name::AskStructure, []) => Call::Ask(Work::Structure),
         (Name::AskUpdate, []) => Call::Ask(Work::Update),
         (Name::AskRollback, []) => Call::Ask(Work::Rollback),
-        (Name::Edit, [candidate, recovery]) => Call::Edit(payloads(candidate, recovery)?),
         (Name::Commit, []) => Call::Commit,
         (Name::Recover, [length]) => Call::Recover { length: number(length)? },
         (Name::RecoverRetained, []) => Call::RecoverRetained,
@@ -43,39 +51,51 @@ fn payloads(candidate: &[u8], recovery: &[u8]) -> Option<Payloads> {
     Some(Payloads { candidate: payload(candidate)?, recovery: payload(recovery)? })
 }
 
-fn open(words: Words) -> Option<Call> {
+fn open(words: Words) -> Option<Given> {
     let (bytes, rest) = words.split_last()?;
     let opening = Opening::of_words(numbers(rest)?);
-    Some(Call::Open { opening, payload: payload(bytes)? })
+    let snapshot = payload(bytes)?;
+    let call = Call::Open { opening, length: snapshot.len() as u64 };
+    Some(Given { call, goods: Goods::Snapshot(snapshot) })
 }
 
-fn begin(name: Name, words: Words) -> Option<Call> {
-    match words {
-        [candidate, recovery, actions] => Some(Call::Begin {
-            structural: name == Name::BeginStructural,
-            payloads: payloads(candidate, recovery)?,
-            pairs: pairs(actions)?,
-        }),
-        _ => None,
-    }
+fn begin(name: Name, words: Words) -> Option<Given> {
+    let (payloads, pairs) = match words {
+        [candidate, recovery, actions] => (payloads(candidate, recovery)?, pairs(actions)?),
+        _ => return None,
+    };
+    let structural = name == Name::BeginStructural;
+    let call = Call::Begin { structural, lengths: payloads.lengths(), actions: actions(&pairs) };
+    Some(Given { call, goods: Goods::Staged(payloads, pairs) })
 }
 
-fn report(name: Name, words: Words) -> Option<Call> {
+fn edit(words: Words) -> Option<Given> {
+    let payloads = match words {
+        [candidate, recovery] => payloads(candidate, recovery)?,
+        _ => return None,
+    };
+    Some(Given { call: Call::Edit(payloads.lengths()), goods: Goods::Both(payloads) })
+}
+
+fn report(name: Name, words: Words) -> Option<Given> {
     let (head, rest) = if words.len() < 3 { return None } else { words.split_at(3) };
     let [ticket, outcome, code] = numbers(head)?;
     let outcome = Outcome::of(outcome, code)?;
-    Some(match (name, rest) {
+    let (call, goods) = match (name, rest) {
         (Name::ReportStructure, [candidate, recovery]) => {
-            Call::ReportStructure { ticket, outcome, payloads: payloads(candidate, recovery)? }
+            let payloads = payloads(candidate, recovery)?;
+            let lengths = payloads.lengths();
+            (Call::ReportStructure { ticket, outcome, lengths }, Goods::Both(payloads))
         }
         (Name::ReportUpdate, [payload]) => {
-            Call::ReportUpdate { ticket, outcome, payload: number(payload)? }
+            (Call::ReportUpdate { ticket, outcome }, Goods::Payload(number(payload)?))
         }
         (Name::ReportRollback, [payload]) => {
-            Call::ReportRollback { ticket, outcome, payload: number(payload)? }
+            (Call::ReportRollback { ticket, outcome }, Goods::Payload(number(payload)?))
         }
         _ => return None,
-    })
+    };
+    Some(Given { call, goods })
 }
 
 fn claim(words: Words) -> Option<Claim> {

@@ -15,7 +15,7 @@ pub(super) fn place(word: &[u8]) -> Option<Place> {
 }
 
 /// One or more digits, leading zeros allowed, up to the u64 maximum.
-pub(super) fn number(word: &[u8]) -> Option<u64> {
+pub fn number(word: &[u8]) -> Option<u64> {
     if word.is_empty() {
         return None;
     }

@@ -7,7 +7,8 @@ use crate::model::{phase, Record, Ticket, Work};
 use crate::sizes::*;
 
 impl Dice {
-    fn entries(&mut self) -> u64 {
+    /// How many actions a begin might have.
+    pub fn entries(&mut self) -> u64 {
         match self.below(10) {
             0 => MAX_ACTIONS,
             1 => MAX_ACTIONS - 1,

@@ -29,7 +29,7 @@ impl Driver {
             match write {
                 Write::Bytes(place, bytes) => self.fill(*place, bytes),
                 Write::Words(words) => self.table[..words.len()].copy_from_slice(words),
-                Write::Word(index, value) => self.table[*index] = *value,
+                Write::Word(index, value) => self.table[*index as usize] = *value,
                 Write::Swap(one, other) => self.swap(*one, *other),
                 Write::Copy { from, to } => {
                     for i in 0..AREA as usize {

@@ -4,7 +4,7 @@
 
 use super::Maker;
 use crate::line;
-use crate::model::{phase, Name, Outcome, Record, Work, CALLS};
+use crate::model::{Name, Outcome, CALLS};
 use crate::sizes::TOP;
 
 impl Maker<'_> {
@@ -22,51 +22,8 @@ impl Maker<'_> {
         if last && self.dice.chance(25) {
             return self.opening();
         }
-        let name = if !r.staged {
-            self.idle()
-        } else if let Some(live) = r.live {
-            self.with_ticket(live.work)
-        } else if self.dice.chance(6) {
-            self.dice.pick(&[Name::AskRollback, Name::Edit])
-        } else {
-            self.due(&r)
-        };
+        let name = self.dice.sensible(&r);
         self.line_of(name)
-    }
-
-    fn idle(&mut self) -> Name {
-        use Name::*;
-        if self.dice.chance(70) {
-            self.dice.pick(&[Begin, Begin, BeginStructural, BeginStructural, Refresh, Stamp])
-        } else {
-            self.dice.pick(&[Check, AskRollback, AskUpdate, Stamp, Refresh])
-        }
-    }
-
-    fn with_ticket(&mut self, work: Work) -> Name {
-        if self.dice.chance(6) {
-            return self.dice.pick(&[Name::AskRollback, Name::AskStructure, Name::AskUpdate]);
-        }
-        match work {
-            Work::Structure => Name::ReportStructure,
-            Work::Update => Name::ReportUpdate,
-            Work::Rollback => Name::ReportRollback,
-        }
-    }
-
-    fn due(&mut self, r: &Record) -> Name {
-        let ended = r.phase == phase::READY || r.phase == phase::RECOVERED;
-        if phase::successor(r.phase).is_some() || (ended && self.dice.chance(25)) {
-            Name::AskStructure
-        } else if r.undoes() {
-            Name::AskRollback
-        } else if r.phase == phase::UPDATES || (r.updates() && r.applied < r.entries) {
-            Name::AskUpdate
-        } else if r.entries == 0 && (r.restoring || self.dice.chance(30)) {
-            self.dice.pick(&[Name::Recover, Name::RecoverRetained])
-        } else {
-            Name::Commit
-        }
     }
 
     /// A call of this name with arguments chosen for the state.

@@ -14,8 +14,8 @@ impl Maker<'_> {
             0 => LOG_LEAST,
             1 => LOG_LEAST + EVENT,
             2 => LOG_MOST,
-            3 => log::words(1 + self.dice.below(ROOM_MOST)),
-            _ => log::words(1 + self.dice.below(40)),
+            3 => log::words(1 + self.dice.below(ROOM_MOST), EVENT),
+            _ => log::words(1 + self.dice.below(40), EVENT),
         }
     }
 
@@ -29,7 +29,7 @@ impl Maker<'_> {
     /// A log with a sound head and room for `left` more events.
     fn sound_log(&mut self, left: u64) -> io::Result<()> {
         let length = self.right_log();
-        let room = log::room(length);
+        let room = log::room(length, EVENT);
         self.lend(Place::Log, length)?;
         for (at, word) in (0..).zip(log::head(room.saturating_sub(left), room)) {
             self.put(Place::Log, at, word)?;
@@ -54,7 +54,7 @@ impl Maker<'_> {
 
     pub(super) fn broken_head(&mut self) -> io::Result<()> {
         self.sound_log(1)?;
-        let room = log::room(self.lent(Place::Log));
+        let room = log::room(self.lent(Place::Log), EVENT);
         let (at, value) = match self.dice.below(6) {
             0 => (log::COUNT, room + 1),
             1 => (log::COUNT, TOP),

@@ -1,16 +1,15 @@
-//! The calls with what each is given.
+//! The calls with what each is given: payloads by their lengths, and pairs by how
+//! many actions they are. What is copied of them is given beside the call.
 //!
 //! Written from documents 01 and 02 alone.
 
-use super::{About, Claim, Name, Opening, Outcome, Record, Tail, Ticket, Work, Write};
-use crate::place::Place;
-use crate::sizes::ACTION;
+use super::{About, Claim, Name, Opening, Outcome, Record, Tail, Ticket, Work};
 
-/// A candidate payload and a recovery payload.
-#[derive(Clone, Debug, PartialEq, Eq)]
-pub struct Payloads {
-    pub candidate: Vec<u8>,
-    pub recovery: Vec<u8>,
+/// The lengths of a candidate payload and of a recovery payload.
+#[derive(Clone, Copy, Debug, PartialEq, Eq)]
+pub struct Lengths {
+    pub candidate: u64,
+    pub recovery: u64,
 }
 
 /// What a status call does to its id.
@@ -21,15 +20,15 @@ pub enum Mark {
     Cancel,
 }
 
-#[derive(Clone, Debug, PartialEq, Eq)]
+#[derive(Clone, Copy, Debug, PartialEq, Eq)]
 pub enum Call {
-    Open { opening: Opening, payload: Vec<u8> },
-    Begin { structural: bool, payloads: Payloads, pairs: Vec<u64> },
+    Open { opening: Opening, length: u64 },
+    Begin { structural: bool, lengths: Lengths, actions: u64 },
     Ask(Work),
-    ReportStructure { ticket: u64, outcome: Outcome, payloads: Payloads },
-    ReportUpdate { ticket: u64, outcome: Outcome, payload: u64 },
-    ReportRollback { ticket: u64, outcome: Outcome, payload: u64 },
-    Edit(Payloads),
+    ReportStructure { ticket: u64, outcome: Outcome, lengths: Lengths },
+    ReportUpdate { ticket: u64, outcome: Outcome },
+    ReportRollback { ticket: u64, outcome: Outcome },
+    Edit(Lengths),
     Commit,
     Recover { length: u64 },
     RecoverRetained,
@@ -71,29 +70,30 @@ impl Call {
     }
 
     /// The candidate and the recovery payload that a call is given.
-    pub fn payloads(&self) -> &Payloads {
+    pub fn lengths(&self) -> Lengths {
         match self {
-            Call::Begin { payloads, .. }
-            | Call::ReportStructure { payloads, .. }
-            | Call::Edit(payloads) => payloads,
+            Call::Begin { lengths, .. }
+            | Call::ReportStructure { lengths, .. }
+            | Call::Edit(lengths) => *lengths,
             _ => unreachable!("no other call is given both"),
         }
     }
 
-    /// The snapshot that a call is given, by its length.
+    /// The snapshot that a call is given.
     pub fn snapshot(&self) -> u64 {
         match self {
-            Call::Open { payload, .. } => payload.len() as u64,
-            Call::Recover { length } | Call::Refresh { length } => *length,
+            Call::Open { length, .. } | Call::Recover { length } | Call::Refresh { length } => {
+                *length
+            }
             _ => unreachable!("no other call is given one"),
         }
     }
 
-    /// The words of the pairs that a begin is given.
-    pub fn pairs(&self) -> &[u64] {
+    /// How many actions a begin is given.
+    pub fn actions(&self) -> u64 {
         match self {
-            Call::Begin { pairs, .. } => pairs,
-            _ => &[],
+            Call::Begin { actions, .. } => *actions,
+            _ => unreachable!("no other call is given any"),
         }
     }
 
@@ -109,19 +109,10 @@ impl Call {
     }
 }
 
-/// How many actions so many words of pairs are.
-pub fn actions(pairs: &[u64]) -> u64 {
-    pairs.len() as u64 / ACTION
-}
-
-impl Payloads {
-    /// Moves both lengths and says which bytes are to be copied.
-    pub(super) fn store(&self, record: &mut Record) -> Vec<Write> {
-        record.candidate = self.candidate.len() as u64;
-        record.recovery = self.recovery.len() as u64;
-        vec![
-            Write::Bytes(Place::Candidate, self.candidate.clone()),
-            Write::Bytes(Place::Recovery, self.recovery.clone()),
-        ]
+impl Lengths {
+    /// Both lengths move with their payloads.
+    pub(super) fn store(self, record: &mut Record) {
+        record.candidate = self.candidate;
+        record.recovery = self.recovery;
     }
 }

@@ -3,7 +3,6 @@
 //!
 //! Written from documents 01 and 02 alone.
 
-use super::call::actions;
 use super::{phase, Call, Record};
 use crate::answer::Refusal;
 use crate::sizes::{AREA, MAX_ACTIONS, TOP};
@@ -11,8 +10,11 @@ use crate::sizes::{AREA, MAX_ACTIONS, TOP};
 /// The first of a call's own refusals that is given, sizes being right and the
 /// record whole.
 pub(super) fn own(record: &Record, call: &Call) -> Result<(), Refusal> {
-    let row = call.about().refusals.iter().map(|refusal| (given(*refusal, record, call), *refusal));
-    Refusal::first(&row.collect::<Vec<_>>())
+    let mut refusals = call.about().refusals.iter();
+    match refusals.find(|refusal| given(**refusal, record, call)) {
+        Some(refusal) => Err(*refusal),
+        None => Ok(()),
+    }
 }
 
 fn given(refusal: Refusal, record: &Record, call: &Call) -> bool {
@@ -22,16 +24,17 @@ fn given(refusal: Refusal, record: &Record, call: &Call) -> bool {
         Refusal::Capacity => at_capacity(record, call),
         Refusal::NotReady => not_ready(record, call),
         Refusal::Recovering => !record.updates(),
-        Refusal::TooMany => actions(call.pairs()) > MAX_ACTIONS,
+        Refusal::TooMany => call.actions() > MAX_ACTIONS,
         Refusal::Stale => call.ticket() != record.live,
         Refusal::Worn => gives_ticket(record, call) && record.serial == TOP,
-        Refusal::LongCandidate => call.payloads().candidate.len() as u64 > AREA,
-        Refusal::LongRecovery => call.payloads().recovery.len() as u64 > AREA,
+        Refusal::LongCandidate => call.lengths().candidate > AREA,
+        Refusal::LongRecovery => call.lengths().recovery > AREA,
         Refusal::LongSnapshot => call.snapshot() > AREA,
         Refusal::BadArea | Refusal::Damaged | Refusal::LogFull | Refusal::NoStatus => {
             unreachable!("no refusal of a call's own")
         }
-        Refusal::TableFull
+        Refusal::BadEvent
+        | Refusal::TableFull
         | Refusal::Twice
         | Refusal::GoesBack
         | Refusal::Absent

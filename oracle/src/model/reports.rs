@@ -4,9 +4,8 @@
 //! Written from document 01 alone.
 
 use super::asks::leave_updates;
-use super::{phase, Outcome, Payloads, Record, Step, Write};
+use super::{phase, Lengths, Outcome, Record, Step};
 use crate::answer::{Answer, Answered};
-use crate::sizes::ACTION;
 
 fn spent(old: &Record) -> Record {
     Record { live: None, ..old.clone() }
@@ -16,14 +15,9 @@ fn more_or_finished(finished: bool) -> Answered {
     if finished { Answer::Finished } else { Answer::More }.bare()
 }
 
-/// The word of the table that holds an action's payload.
-fn payload_of(action: u64, payload: u64) -> Vec<Write> {
-    vec![Write::Word((ACTION * action + 1) as usize, payload)]
-}
-
-pub(super) fn report_structure(old: &Record, outcome: Outcome, payloads: &Payloads) -> Step {
+pub(super) fn report_structure(old: &Record, outcome: Outcome, lengths: Lengths) -> Step {
     let mut new = spent(old);
-    let writes = payloads.store(&mut new);
+    lengths.store(&mut new);
     let answered = outcome.without_work().unwrap_or_else(|| {
         if phase::going_back(old.phase) {
             new.back += 1;
@@ -33,12 +27,11 @@ pub(super) fn report_structure(old: &Record, outcome: Outcome, payloads: &Payloa
         new.phase = phase::successor(old.phase).expect("a live structure ticket has a successor");
         more_or_finished(phase::boundary(new.phase))
     });
-    Step { answered, record: new, writes }
+    Step { answered, record: new }
 }
 
-pub(super) fn report_update(old: &Record, outcome: Outcome, payload: u64) -> Step {
+pub(super) fn report_update(old: &Record, outcome: Outcome) -> Step {
     let mut new = spent(old);
-    let writes = payload_of(old.applied, payload);
     let answered = outcome.without_work().unwrap_or_else(|| {
         new.applied += 1;
         let last = new.applied == new.entries;
@@ -47,13 +40,12 @@ pub(super) fn report_update(old: &Record, outcome: Outcome, payload: u64) -> Ste
         }
         more_or_finished(last)
     });
-    Step { answered, record: new, writes }
+    Step { answered, record: new }
 }
 
-pub(super) fn report_rollback(old: &Record, outcome: Outcome, payload: u64) -> Step {
+pub(super) fn report_rollback(old: &Record, outcome: Outcome) -> Step {
     let mut new = spent(old);
     let last = old.entries - 1;
-    let writes = payload_of(last, payload);
     let answered = outcome.without_work().unwrap_or_else(|| {
         new.entries = last;
         new.attempted = old.attempted - 1;
@@ -63,5 +55,5 @@ pub(super) fn report_rollback(old: &Record, outcome: Outcome, payload: u64) -> S
         }
         more_or_finished(last == 0)
     });
-    Step { answered, record: new, writes }
+    Step { answered, record: new }
 }

@@ -5,14 +5,14 @@
 
 use super::{holds, open, play, play_bytes};
 use crate::place::Place;
-use crate::sizes::{AREA, HELD_AREA, LENT_IDS, LINE_MOST, LOG_LEAST};
+use crate::sizes::{AREA, EVENT, HELD_AREA, LENT_IDS, LINE_MOST, LOG_LEAST};
 use crate::status::{READY, STATUS_BITS};
 use crate::{boundary, command, driver, line, log, make, script, tally};
 
 #[test]
 fn the_log_of_the_example() {
     let mut driver = driver::Driver::new();
-    let lend = line::lend(Place::Log, log::words(3));
+    let lend = line::lend(Place::Log, log::words(3, EVENT));
     for line in [&lend, &open(0, 0, "0:0"), "begin 0:0 0:0 0:0", "commit"] {
         driver.obey(command::command(line.as_bytes()).expect("a command"));
     }
@@ -125,7 +125,7 @@ fn made_scripts_fill_every_cell() {
     let mut tally = tally::Tally::new();
     let mut made = Vec::new();
     make::make(1, 20_000, &mut made, &mut |made| tally.count(made)).unwrap();
-    let (empty, strange) = tally.faults();
+    let (empty, strange) = tally.cells.faults();
     assert_eq!((empty, strange), (vec![], vec![]), "{}", tally.text());
     let mut again = Vec::new();
     make::make(1, 20_000, &mut again, &mut |_| {}).unwrap();

@@ -1,7 +1,7 @@
 -- `digest_lines::put_digests` meets its contract: its five lines are put one after the other. Assumes nothing.
 use borrow.Author.Needs.{needs}
+use Rattle.text.proofs.Putting.{put-five}
 use Rattle.digest_lines.specs.DigestTexts.{digestsText}
-use Rattle.digest_lines.proofs.Putting.{put-five}
 use Rattle.digest_lines.proofs.put_digests.Statement.{statement}
 use Rattle.digest_lines.proofs.put_digests.Tie as tie
 

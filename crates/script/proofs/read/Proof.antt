@@ -3,7 +3,8 @@ use mathlib.Core.Path.{refl, sym, ap, _∙_}
 use borrow.Author.Needs.{needs}
 use borrow.Author.Tests.{eq-eqb, ne-eqb, lt-ltb, le-ltb, not-true, not-false}
 use Rattle.choice.proofs.Picks.{yes, no}
-use Rattle.script.specs.Reading.{bytesOf, linesOf, templates, readAs}
+use Rattle.text.specs.Writing.{bytesOf}
+use Rattle.script.specs.Reading.{linesOf, templates, readAs}
 use Rattle.templates.specs.declared.Found.{Found}
 use Rattle.script.proofs.read.Statement.{statement}
 use Rattle.script.proofs.read.Tie as tie

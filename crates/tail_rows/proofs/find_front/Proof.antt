@@ -46,9 +46,10 @@ use Rattle.tail_table.specs.declared.Claim.{Claim}
 use Rattle.tail_table.proofs.Tail as T
 use Rattle.tail_table.proofs.File as I
 use Rattle.tail_table.proofs.Claim as C
-use Rattle.tail_structs.proofs.Calling.{Known, Promise, Tokens, beside, calls-lent}
-use Rattle.tail_structs.proofs.Data.{number, tail, file, claim, finding, slice}
-use Rattle.tail_structs.proofs.Walking.{dropped, all-go, shown, had, ends-plain, gone}
+use Rattle.walks.proofs.Calling.{Known, Promise, Tokens, beside, calls-lent}
+use Rattle.walks.proofs.Data.{number}
+use Rattle.tail_structs.proofs.Data.{tail, file, claim, finding, slice}
+use Rattle.walks.proofs.Walking.{dropped, all-go, shown, had, ends-plain, gone}
 use Rattle.tail_structs.proofs.find as finder
 use Rattle.tail_structs.proofs.find.Symbol as finder-def
 use Rattle.tail_structs.proofs.find.Symbol.{name as #finder}

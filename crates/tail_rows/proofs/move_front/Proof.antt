@@ -44,9 +44,10 @@ use Rattle.tail_table.specs.declared.Tail.{Tail}
 use Rattle.tail_table.specs.declared.Claim.{Claim}
 use Rattle.tail_table.proofs.Tail as T
 use Rattle.tail_table.proofs.Claim as C
-use Rattle.tail_structs.proofs.Calling.{Known, Promise, Tokens, beside, calls-said}
-use Rattle.tail_structs.proofs.Data.{number, tail, claim, verdict, slice}
-use Rattle.tail_structs.proofs.Walking.{dropped, all-go, shown, had, ends-plain, gone}
+use Rattle.walks.proofs.Calling.{Known, Promise, Tokens, beside, calls-said}
+use Rattle.walks.proofs.Data.{number}
+use Rattle.tail_structs.proofs.Data.{tail, claim, verdict, slice}
+use Rattle.walks.proofs.Walking.{dropped, all-go, shown, had, ends-plain, gone}
 use Rattle.tail_structs.proofs.move_offset as mover
 use Rattle.tail_structs.proofs.move_offset.Symbol as mover-def
 use Rattle.tail_structs.proofs.move_offset.Symbol.{name as #mover}

@@ -39,9 +39,10 @@ use Rattle.tail_table.proofs.File as I
 use Rattle.tail_table.proofs.Claim as C
 use Rattle.tail_structs.specs.Structs.{looked}
 use Rattle.tail_structs.proofs.Agree.{find-agrees}
-use Rattle.tail_structs.proofs.Calling.{Known, Promise, Tokens, asks, beside, calls-plain, calls-lent}
-use Rattle.tail_structs.proofs.Data.{number, file, sweep, claim, finding}
-use Rattle.tail_structs.proofs.Walking.{dropped, all-go, shown, ends-plain, gone}
+use Rattle.walks.proofs.Calling.{Known, Promise, Tokens, asks, beside, calls-plain, calls-lent}
+use Rattle.walks.proofs.Data.{number}
+use Rattle.tail_structs.proofs.Data.{file, sweep, claim, finding}
+use Rattle.walks.proofs.Walking.{dropped, all-go, shown, ends-plain, gone}
 use Rattle.tail_structs.proofs.scan as scan
 use Rattle.tail_structs.proofs.scan.Symbol as scan-def
 use Rattle.tail_structs.proofs.scan.Symbol.{name as #scan}

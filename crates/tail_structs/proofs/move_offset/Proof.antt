@@ -42,11 +42,12 @@ use Rattle.tail_table.proofs.Claim as C
 use Rattle.tail_structs.specs.Structs.{planned, offsetSet}
 use Rattle.tail_structs.specs.declared.Decision.{Decision}
 use Rattle.tail_structs.proofs.Agree.{move-agrees}
-use Rattle.tail_structs.proofs.Calling.{Known, Promise, Tokens, beside, calls-lent, calls-said}
-use Rattle.tail_structs.proofs.Data.{number, tail, claim, verdict, offset-is}
+use Rattle.walks.proofs.Calling.{Known, Promise, Tokens, beside, calls-lent, calls-said}
+use Rattle.walks.proofs.Data.{number}
+use Rattle.tail_structs.proofs.Data.{tail, claim, verdict, offset-is}
 use Rattle.tail_structs.proofs.Decided.{decision, Fine, answer-is, place-is}
 use Rattle.tail_structs.proofs.Shared.{LentShared, lends-shared, shared-back}
-use Rattle.tail_structs.proofs.Walking.{dropped, all-go, shown, had, gone}
+use Rattle.walks.proofs.Walking.{dropped, all-go, shown, had, gone}
 use Rattle.tail_structs.proofs.plan as plan
 use Rattle.tail_structs.proofs.plan.Symbol as plan-def
 use Rattle.tail_structs.proofs.plan.Symbol.{name as #plan}

@@ -41,10 +41,11 @@ use Rattle.tail_table.proofs.Tail.file.Symbol.{name as #filed}
 use Rattle.tail_table.proofs.Tail.file.Met as filed-thm
 use Rattle.tail_structs.specs.Structs.{looked, planned}
 use Rattle.tail_structs.specs.declared.Decision.{Decision}
-use Rattle.tail_structs.proofs.Calling.{Known, Promise, Tokens, asks, beside, calls-plain, calls-lent}
-use Rattle.tail_structs.proofs.Data.{number, tail, file, sweep, claim}
+use Rattle.walks.proofs.Calling.{Known, Promise, Tokens, asks, beside, calls-plain, calls-lent}
+use Rattle.walks.proofs.Data.{number}
+use Rattle.tail_structs.proofs.Data.{tail, file, sweep, claim}
 use Rattle.tail_structs.proofs.Decided.{decision}
-use Rattle.tail_structs.proofs.Walking.{dropped, all-go, shown, ends-plain, gone}
+use Rattle.walks.proofs.Walking.{dropped, all-go, shown, ends-plain, gone}
 use Rattle.tail_structs.proofs.scan as scan
 use Rattle.tail_structs.proofs.scan.Symbol as scan-def
 use Rattle.tail_structs.proofs.scan.Symbol.{name as #scan}

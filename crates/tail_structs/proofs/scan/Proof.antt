@@ -43,9 +43,10 @@ use Rattle.tail_table.proofs.Sweep.step.Symbol.{name as #step}
 use Rattle.tail_table.proofs.Sweep.step.Met as step-thm
 use Rattle.tail_structs.specs.Structs.{looked}
 use Rattle.tail_structs.proofs.Agree.{reach-fits}
-use Rattle.tail_structs.proofs.Calling.{Known, Promise, asks, calls-plain}
-use Rattle.tail_structs.proofs.Data.{number, file, sweep}
-use Rattle.tail_structs.proofs.Walking.{dropped, all-go, shown}
+use Rattle.walks.proofs.Calling.{Known, Promise, asks, calls-plain}
+use Rattle.walks.proofs.Data.{number}
+use Rattle.tail_structs.proofs.Data.{file, sweep}
+use Rattle.walks.proofs.Walking.{dropped, all-go, shown}
 use Rattle.tail_structs.proofs.reach as reach
 use Rattle.tail_structs.proofs.reach.Symbol as reach-def
 use Rattle.tail_structs.proofs.reach.Symbol.{name as #reach}

@@ -42,10 +42,11 @@ use Rattle.tail_table.specs.declared.Tail.{Tail}
 use Rattle.tail_table.proofs.Tail as T
 use Rattle.tail_table.proofs.Tail.Laws as T′
 use Rattle.tail_structs.specs.Structs.{offsetSet}
-use Rattle.tail_structs.proofs.Calling.{Promise}
+use Rattle.walks.proofs.Calling.{Promise}
 use Rattle.tail_structs.proofs.Counting.{steps-fit}
-use Rattle.tail_structs.proofs.Data.{number, tail, word, slice}
-use Rattle.tail_structs.proofs.Walking.{dropped, all-go, shown, had, gone, gone-empty}
+use Rattle.walks.proofs.Data.{number, word}
+use Rattle.tail_structs.proofs.Data.{tail, slice}
+use Rattle.walks.proofs.Walking.{dropped, all-go, shown, had, gone, gone-empty}
 use Rattle.tail_structs.proofs.set_offset.Key.{name as #key}
 use Rattle.tail_structs.proofs.set_offset as F
 use Rattle.tail_structs.proofs.set_offset.Statement as stated

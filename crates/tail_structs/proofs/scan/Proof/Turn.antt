@@ -46,10 +46,11 @@ use Rattle.tail_table.proofs.Sweep.Laws as S′
 use Rattle.tail_table.proofs.Sweep.step as step
 use Rattle.tail_table.proofs.Sweep.step.Symbol.{name as #step}
 use Rattle.tail_structs.specs.Structs.{looked}
-use Rattle.tail_structs.proofs.Calling.{Known, Promise, Tokens, asks, calls-plain}
+use Rattle.walks.proofs.Calling.{Known, Promise, Tokens, asks, calls-plain}
 use Rattle.tail_structs.proofs.Counting.{steps-fit, next-fits, one-more, nearer, all-done, inside}
-use Rattle.tail_structs.proofs.Data.{number, tail, file, sweep, word, slice}
-use Rattle.tail_structs.proofs.Walking.{dropped, ends-plain, gone, gone-empty}
+use Rattle.walks.proofs.Data.{number, word}
+use Rattle.tail_structs.proofs.Data.{tail, file, sweep, slice}
+use Rattle.walks.proofs.Walking.{dropped, ends-plain, gone, gone-empty}
 use Rattle.tail_structs.proofs.scan as F
 use Rattle.tail_structs.proofs.scan.Code.Mir as parts
 

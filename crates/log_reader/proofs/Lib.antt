@@ -1,0 +1,3 @@
+mod Beside
+mod Reader
+mod Start

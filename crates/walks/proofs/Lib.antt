@@ -1,0 +1,4 @@
+pub mod Data
+pub mod Steps
+pub mod Calling
+pub mod Walking
