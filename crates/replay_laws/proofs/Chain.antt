@@ -1,33 +1,29 @@
 -- Replaying the events of recorded calls is their chain: the same records and the same answers, event by event; and what the recorder
 -- enters of them has the replayed numbers. Assumes nothing.
-use Prim.Native.Nat.{ℕ, zero, suc, _+_, _≤_}
-use mathlib.Core.Path.{_≡_, refl, sym, ap, _∙_}
-use mathlib.Core.Bool.{Bool, true, false}
-use mathlib.Core.List.{List, [], _∷_, _++_}
-use lib.Dec.{eqb}
-use lib.ListN.{length, getD, set, length-set}
-use lib.Seq.{sets, getD-set-same}
-use native.Mathlib.Nat.{add-zero, add-suc, suc-add}
+use Prim.Native.Nat.{ℕ, suc, _+_, _<_}
+use mathlib.Core.Path.{_≡_, sym, ap, _∙_}
+use mathlib.Core.Bool.{true}
+use mathlib.Core.List.{List, [], _∷_}
+use lib.ListN.{length, set}
+use lib.Seq.{sets}
+use native.Mathlib.Nat.{add-zero}
 use native.Mathlib.Numerals.{add-one}
 use native.Mathlib.Omega.{arith}
 use borrow.Author.Tests.{lt-leb}
-use Rattle.choice.specs.Pick.{pick, _or_}
-use Rattle.choice.proofs.Picks.{yes, no}
-use Rattle.record.specs.Answers.{Told}
+use Rattle.choice.specs.Pick.{_or_}
+use Rattle.choice.proofs.Picks.{no}
 use Rattle.record.specs.declared.Record.{Record}
+use Rattle.log.specs.Log.{count}
 use Rattle.calls.specs.Calls.{Call, step}
-use Rattle.input_events.specs.declared.Event.{Event}
 use Rattle.input_events.specs.Events.{eventAt, bad}
 use Rattle.input_events.specs.Meaning.{meant}
 use Rattle.demand_chains.specs.Chains.{after, heard}
 use Rattle.replays.specs.declared.Ending.the-variants.{Ran}
-use Rattle.replays.specs.Replaying.{Standing, standing, moved, next, run}
+use Rattle.replays.specs.Replaying.{standing, moved, next, run}
 use Rattle.replay_laws.specs.Recording.{Holds, eventOf, recorded}
 use Rattle.replay_laws.specs.Recording.Holds.{none, more}
 use Rattle.replay_laws.specs.Entering.{numbers}
 use Rattle.replay_laws.proofs.Events.{meaning}
-use Rattle.log.specs.Log.{count}
-use Prim.Native.Nat.{_<_}
 
 module _ (l : List ℕ) where
   -- the next event is that of a recorded call

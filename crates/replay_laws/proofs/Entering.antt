@@ -1,19 +1,17 @@
 -- What the recorder enters of recorded calls has the replayed numbers. Assumes nothing.
-use Prim.Native.Nat.{ℕ, suc, _+_, _≤_, _<_}
+use Prim.Native.Nat.{ℕ, _+_, _≤_, _<_}
 use mathlib.Core.Path.{_≡_, refl, sym, ap, _∙_}
 use mathlib.Core.Bool.{Bool, true, false, not}
 use mathlib.Core.List.{List, [], _∷_, _++_}
-use lib.Dec.{eqb, leb}
+use lib.Dec.{eqb}
 use lib.ListN.{length, getD, set, length-set}
 use lib.Seq.{getD-set-same}
 use native.Mathlib.Omega.{arith}
 use Rattle.choice.specs.Pick.{pick, _and_, _or_}
 use Rattle.choice.proofs.Picks.{no}
 use Rattle.choice.proofs.Tests.{never, test}
-use Rattle.answers.specs.Classes.{Class, numberOf, stepWritten, callWritten}
-use Rattle.record.specs.Answers.{Told}
+use Rattle.answers.specs.Classes.{Class, numberOf, stepWritten}
 use Rattle.record.specs.declared.Record.{Record}
-use Rattle.log.specs.Log.{count}
 use Rattle.events.specs.Entries.{Entry, entry, eventIf}
 use Rattle.calls.specs.Calls.{Call, step}
 use Rattle.calls.specs.Calls.AnyCall.{calls}
@@ -26,7 +24,7 @@ use Rattle.input_events.specs.declared.Event.{Event}
 use Rattle.input_events.specs.Events.{eventAt}
 use Rattle.replays.specs.declared.Ending.the-variants.{Ran}
 use Rattle.replays.specs.Replaying.{Standing, standing, moved, next}
-use Rattle.replay_laws.specs.Recording.{recorded, eventOf, Holds}
+use Rattle.replay_laws.specs.Recording.{recorded, Holds}
 use Rattle.replay_laws.specs.Recording.Holds.{none, more}
 use Rattle.replay_laws.specs.Entering.{entered, entryOf, entriesOf}
 use Rattle.replay_laws.proofs.Events.{meaning}

@@ -1,13 +1,13 @@
 -- Document 02, request 4: "two portions equal one", bad events included. Assumes nothing.
 use Prim.Native.Nat.{ℕ, zero, suc, _+_, _<_}
 use mathlib.Core.Path.{_≡_, refl, sym, ap, _∙_}
-use mathlib.Core.Bool.{Bool, true, false, not}
+use mathlib.Core.Bool.{true, false, not}
 use mathlib.Core.List.{List}
 use lib.Dec.{leb}
 use lib.ListN.{length, set}
 use native.Mathlib.Nat.{add-zero}
 use native.Mathlib.Omega.{arith}
-use Rattle.choice.specs.Pick.{pick, _or_}
+use Rattle.choice.specs.Pick.{_or_}
 use Rattle.choice.proofs.Picks.{picked, yes, no}
 use Rattle.choice.proofs.Tests.{test}
 use Rattle.answers.specs.declared.Refusal.the-variants.{BadArea, Damaged}
@@ -18,7 +18,7 @@ use Rattle.input_events.specs.Events.{eventAt, bad}
 use Rattle.input_events.specs.Meaning.{meant}
 use Rattle.replays.specs.declared.Ending.{Ending}
 use Rattle.replays.specs.declared.Ending.the-variants.{Ran, Bad}
-use Rattle.replays.specs.Replaying.{Standing, standing, start, stopped, refusedAt, goesOn, next, run, holds, replayed}
+use Rattle.replays.specs.Replaying.{Standing, standing, start, refusedAt, goesOn, next, run, holds, replayed}
 use Rattle.replays.proofs.Turns.{halted, at-bad}
 use Rattle.replay_laws.specs.Portions.{bothEnd, joined}
 use Rattle.replay_laws.proofs.Running.{by-turn, kept, run-length, run-adds}

@@ -1,12 +1,12 @@
 -- A replay of so many events, turn by turn: what every turn keeps the replay keeps, and a portion that is given one event more.
 -- Assumes nothing.
 use Prim.Native.Nat.{ℕ, zero, suc, _+_, _≤_, _<_}
-use mathlib.Core.Path.{_≡_, refl, sym, ap, _∙_}
-use mathlib.Core.Bool.{Bool, true, false, not}
+use mathlib.Core.Path.{_≡_, refl, ap, _∙_}
+use mathlib.Core.Bool.{true, false, not}
 use mathlib.Core.List.{List}
 use mathlib.Core.Logic.{_≢_}
 use lib.Dec.{eqb, leb}
-use lib.ListN.{length, getD, set, length-set}
+use lib.ListN.{length, getD, length-set}
 use lib.Seq.{getD-set-other}
 use native.Mathlib.Nat.{zero-add, suc-add}
 use native.Mathlib.Omega.{arith}
@@ -18,9 +18,7 @@ use Rattle.log.specs.Log.{count}
 use Rattle.calls.specs.Calls.{step}
 use Rattle.input_events.specs.Events.{eventAt, bad}
 use Rattle.input_events.specs.Meaning.{meant}
-use Rattle.replays.specs.declared.Ending.{Ending}
-use Rattle.replays.specs.declared.Ending.the-variants.{Ran, Bad}
-use Rattle.replays.specs.Replaying.{Standing, standing, goesOn, stopped, moved, next, run}
+use Rattle.replays.specs.Replaying.{Standing, goesOn, stopped, moved, next, run}
 
 -- the next event by cases: none is run, or it is bad, or it is answered
 pub by-turn : (P : Standing → Type 0) (l : List ℕ) (s : Standing) → P s

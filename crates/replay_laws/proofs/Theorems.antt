@@ -1,15 +1,15 @@
 -- Document 02, request 4: what a replay gives for every input, that replaying recorded calls is their chain, and that the recorder's log has
 -- the replayed numbers. Portions stand in Portions.antt. Assumes nothing.
-use Prim.Native.Nat.{ℕ, zero, suc, _+_, _≤_, _<_}
+use Prim.Native.Nat.{ℕ, zero, suc, _+_, _≤_}
 use mathlib.Core.Path.{_≡_, refl, sym, ap, _∙_}
-use mathlib.Core.Bool.{Bool, true, false}
+use mathlib.Core.Bool.{true}
 use mathlib.Core.List.{List, [], _∷_, _++_, map, append-nil}
 use lib.ListN.{length, take, drop, length-append}
 use lib.Seq.{sets, sets-eq, take-at}
 use native.Mathlib.Nat.{zero-add}
 use native.Mathlib.Omega.{arith}
 use borrow.Author.Tests.{le-leb}
-use Rattle.choice.proofs.Tests.{join, test}
+use Rattle.choice.proofs.Tests.{join}
 use Rattle.record.specs.declared.Record.{Record}
 use Rattle.log.specs.Log.{logSized, sound, count, inputWidth, roomBy, inputSound}
 use Rattle.log.specs.Log as Log

@@ -1,7 +1,7 @@
 -- Document 02, request 4: the event of a recorded call, and an input log that holds the events of such calls. Assumes nothing.
 use Prim.Native.Nat.{ℕ, _+_, _*_, _-_, _≤_, _<_}
 use mathlib.Core.Path.{_≡_}
-use mathlib.Core.Bool.{Bool, true, false, not}
+use mathlib.Core.Bool.{Bool, true, not}
 use mathlib.Core.List.{List, [], _∷_, _++_}
 use lib.Dec.{eqb}
 use lib.ListN.{length}
@@ -9,7 +9,7 @@ use Rattle.choice.specs.Pick.{_and_}
 use Rattle.record.specs.declared.Outcome.{Outcome}
 use Rattle.record.specs.declared.Outcome.the-variants.{Waiting, Failed, Done}
 use Rattle.log.specs.Log.{count, headWords, mostRoom, inputWidth}
-use Rattle.calls.specs.Calls.{Report, Call}
+use Rattle.calls.specs.Calls.{Call}
 use Rattle.calls.specs.Calls.Report.{structured, updated, rolledBack}
 use Rattle.calls.specs.Calls.Call.{begin, ask, report, edit, commit, recover, recoverRetained, refresh, stamp, check}
 use Rattle.calls.specs.Kinds.{noKind, kindOf}
