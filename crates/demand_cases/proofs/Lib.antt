@@ -7,3 +7,4 @@ pub mod LastCount
 pub mod Stored
 pub mod LoggedExhibit
 pub mod HeldExhibit
+pub mod ReplayExhibit
