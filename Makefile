@@ -20,7 +20,7 @@ test:
 
 replay:
 	@tools/prove replay >&2
-	@tools/play replay $(if $(FILE),'$(abspath $(FILE))') $(WORDS)
+	@tools/play replay $(if $(FILE),'$(FILE)') $(WORDS)
 
 compare:
 	@tools/prove drive replay

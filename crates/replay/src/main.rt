@@ -22,9 +22,7 @@ and the events are replayed in portions of PORTION, at least 1 (1024 if it is no
 
 // Says what is wrong with the words that the program was given, and how it is used.
 fn complain(what: &[u8]) {
-    io::write_all(STDERR_FILENO, b"replay: ");
-    io::write_all(STDERR_FILENO, what);
-    io::write_all(STDERR_FILENO, b"\n");
+    play::tell(what);
     print_usage();
 }
 
