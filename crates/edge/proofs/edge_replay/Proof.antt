@@ -22,4 +22,4 @@ returns c =
     told (a .words .now) _ (a .answers .now) (a .most) (done .replay .ensures) (opened .opened .ensures)
 
 pub edge-replay-spec : {M : Type 1} → statement M
-edge-replay-spec = tie.close (tie.spec (λ c κs. search needs) (λ c κs. search needs) (λ c. search needs) returns)
+edge-replay-spec = tie.close (tie.spec (λ c κs. tt) (λ c κs. tt) (λ c. search needs) returns)
