@@ -1,7 +1,7 @@
-// For callers in C or Rust, under names of C's: copying and exchanging lent bytes, as `copies` and `areas` have it, finding and moving
-// in a tail table, as `tails` has it, and replaying an input log, as `replays` has it. A slice crosses as the address of its first element and its length; numbers cross as they are, so
-// that a tail call is given the revision and the count of replacements of the settings, and the stamp's: the settings are idle, in the
-// domain 0.
+// For callers in C or Rust, under names of C's: copying and exchanging lent bytes, as `copies` and `areas` have it, finding and moving in a
+// tail table, as `tails` has it, and replaying an input log, as `replays` has it. A slice crosses as the address of its first element and
+// its length; numbers cross as they are, so that a tail call is given the revision and the count of replacements of the settings, and the
+// stamp's: the settings are idle, in the domain 0.
 use record::Opening;
 use step_stamps::SaveStamp;
 use tail_answers::Finding;
@@ -113,19 +113,19 @@ pub extern "C" fn edge_move_tail(
 #[no_mangle]
 pub extern "C" fn edge_replay(
     words: &[u64],
-    revision: u64,
-    serial: u64,
-    replacements: u64,
+    from_revision: u64,
+    from_serial: u64,
+    from_replacements: u64,
     length: usize,
     answers: &mut [u64],
     most: usize,
 ) -> usize
-    ensures { λ n. ⌜ n ∷ now (answers .exit) ≡ replayedAt (now (words .entry)) revision serial replacements length (now (answers .entry)) most ⌝ }
+    ensures { λ n. ⌜ n ∷ now (answers .exit) ≡ replayedAt (now (words .entry)) «from_revision» «from_serial» «from_replacements» length (now (answers .entry)) most ⌝ }
 {
     let opening = Opening {
-        revision: revision,
-        serial: serial,
-        replacements: replacements,
+        revision: from_revision,
+        serial: from_serial,
+        replacements: from_replacements,
     };
     let done = replays::replay(words, 0, opening.opened(length), answers, most);
     done.ran

@@ -1,6 +1,7 @@
 // The program `replay`: it reads an input log from a file, opens a record, replays the log's events in portions, and writes each event
 // with its answer, how the replay ended, and the record. What it writes is fixed by docs/REPLAY.md.
 mod given;
+mod output;
 mod play;
 
 use console::Contents;
@@ -22,7 +23,7 @@ and the events are replayed in portions of PORTION, at least 1 (1024 if it is no
 
 // Says what is wrong with the words that the program was given, and how it is used.
 fn complain(what: &[u8]) {
-    play::tell(what);
+    output::tell(what);
     print_usage();
 }
 

@@ -1,5 +1,4 @@
--- Replaying the events of recorded calls is their chain: the same records and the same answers, event by event; and what the recorder
--- enters of them has the replayed numbers. Assumes nothing.
+-- Replaying the events of recorded calls is their chain: the same records and the same answers, event by event. Assumes nothing.
 use Prim.Native.Nat.{ℕ, suc, _+_, _<_}
 use mathlib.Core.Path.{_≡_, sym, ap, _∙_}
 use mathlib.Core.Bool.{true}
@@ -20,14 +19,14 @@ use Rattle.input_events.specs.Meaning.{meant}
 use Rattle.demand_chains.specs.Chains.{after, heard}
 use Rattle.replays.specs.declared.Ending.the-variants.{Ran}
 use Rattle.replays.specs.Replaying.{standing, moved, next, run}
-use Rattle.replay_laws.specs.Recording.{Holds, eventOf, recorded}
+use Rattle.replay_laws.specs.Recording.{Holds, eventOf, isRecorded}
 use Rattle.replay_laws.specs.Recording.Holds.{none, more}
 use Rattle.replay_laws.specs.Entering.{numbers}
 use Rattle.replay_laws.proofs.Events.{meaning}
 
 module _ (l : List ℕ) where
   -- the next event is that of a recorded call
-  pub next-call : (r : Record) (at ran : ℕ) (a : List ℕ) (c : Call) → at < count l → eventAt l at ≡ eventOf c → recorded c ≡ true
+  pub next-call : (r : Record) (at ran : ℕ) (a : List ℕ) (c : Call) → at < count l → eventAt l at ≡ eventOf c → isRecorded c ≡ true
       → next l (standing r at ran Ran a) ≡ moved (step r c) (standing r at ran Ran a)
   unfolding next _or_
   next-call r at ran a c h e k =

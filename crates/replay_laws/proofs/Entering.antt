@@ -7,7 +7,7 @@ use lib.Dec.{eqb}
 use lib.ListN.{length, getD, set, length-set}
 use lib.Seq.{getD-set-same}
 use native.Mathlib.Omega.{arith}
-use Rattle.choice.specs.Pick.{pick, _and_, _or_}
+use Rattle.choice.specs.Pick.{pick}
 use Rattle.choice.proofs.Picks.{no}
 use Rattle.choice.proofs.Tests.{never, test}
 use Rattle.answers.specs.Classes.{Class, numberOf, stepWritten}
@@ -24,7 +24,7 @@ use Rattle.input_events.specs.declared.Event.{Event}
 use Rattle.input_events.specs.Events.{eventAt}
 use Rattle.replays.specs.declared.Ending.the-variants.{Ran}
 use Rattle.replays.specs.Replaying.{Standing, standing, moved, next}
-use Rattle.replay_laws.specs.Recording.{recorded, Holds}
+use Rattle.replay_laws.specs.Recording.{isRecorded, Holds}
 use Rattle.replay_laws.specs.Recording.Holds.{none, more}
 use Rattle.replay_laws.specs.Entering.{entered, entryOf, entriesOf}
 use Rattle.replay_laws.proofs.Events.{meaning}
@@ -38,11 +38,11 @@ by-number k c e =
     sym (no _ e (ap (λ (b : Bool). pick (stepKind k) b (eqb (numberOf c) 0)) (sym (n .written)) ∙ ap (λ (b : Bool). pick (stepKind k) (stepWritten c) b) (sym (n .success))))
 
 -- a call with a kind has another than none
-kinded : (c : Call) → recorded c ≡ true → eqb (kindOf c) noKind ≡ false
+kinded : (c : Call) → isRecorded c ≡ true → eqb (kindOf c) noKind ≡ false
 kinded c h = test (eqb (kindOf c) noKind) (λ e. never (sym h ∙ ap not e)) (λ e. e)
 
 -- the recorder's entry of a call, by the kind and the number of its event
-one-entry : (r : Record) (c : Call) → recorded c ≡ true → eventIf (written c) (kindOf c) (step r c) ≡ entryOf (kindOf c) (step r c .number) (step r c .state)
+one-entry : (r : Record) (c : Call) → isRecorded c ≡ true → eventIf (written c) (kindOf c) (step r c) ≡ entryOf (kindOf c) (step r c .number) (step r c .state)
 unfolding eventIf
 one-entry r c h =
     let t = step r c in

@@ -9,9 +9,9 @@ use Rattle.calls.specs.Calls.Work.{structure, update, rollback}
 use Rattle.calls.specs.Calls.Report.{structured, updated, rolledBack}
 use Rattle.calls.specs.Calls.Call.{begin, ask, report, edit, commit, recover, recoverRetained, refresh, stamp, check}
 use Rattle.calls.specs.Kinds.{kindOf}
-use Rattle.input_events.specs.Events.{idle, stray, bad}
+use Rattle.input_events.specs.Events.{misused, stray, bad}
 use Rattle.input_events.specs.Meaning.{callBy, meant}
-use Rattle.replay_laws.specs.Recording.{recorded, eventOf}
+use Rattle.replay_laws.specs.Recording.{isRecorded, eventOf}
 
 -- what a replay makes of the event of a call
 pub record Meant (c : Call) : Type 0 where
@@ -19,8 +19,8 @@ pub record Meant (c : Call) : Type 0 where
   pub same : meant (eventOf c) ≡ c
   pub kind : eventOf c .kind ≡ kindOf c
 
-pub meaning : (c : Call) → recorded c ≡ true → Meant c
-unfolding bad stray idle _and_ _or_ pick callBy eventOf kindOf
+pub meaning : (c : Call) → isRecorded c ≡ true → Meant c
+unfolding bad stray misused _and_ _or_ pick callBy eventOf kindOf
 meaning (begin true b) h = record { good = refl; same = refl; kind = refl }
 meaning (begin false b) h = record { good = refl; same = refl; kind = refl }
 meaning (ask structure) h = record { good = refl; same = refl; kind = refl }

@@ -1,36 +1,39 @@
 -- Document 02, request 4: what a replay of any words, from any position and record, gives. Assumes nothing.
-use Prim.Native.Nat.{ℕ, zero, suc, _+_, _≤_, _<_}
+use Prim.Native.Nat.{ℕ, zero, suc, _+_, _-_, _≤_, _<_}
 use mathlib.Core.Path.{_≡_, refl, sym, ap, _∙_, subst}
 use mathlib.Core.Bool.{Bool, true, false, not}
 use mathlib.Core.List.{List}
-use lib.Dec.{eqb, leb}
-use lib.ListN.{length, getD, set, length-set}
-use lib.Seq.{getD-set-same, getD-set-other}
+use lib.Dec.{leb, ltb}
+use lib.ListN.{length, getD}
+use lib.Seq.{sets}
 use native.Mathlib.Nat.{add-zero}
 use native.Mathlib.Omega.{arith}
-use borrow.Author.Tests.{leb-true, eqb-true}
+use borrow.Author.Tests.{leb-true, ltb-true, le-leb}
 use Rattle.choice.specs.Pick.{_or_}
 use Rattle.choice.proofs.Picks.{yes, no}
-use Rattle.choice.proofs.Tests.{never, test, tests, eqb-ne}
+use Rattle.choice.proofs.Tests.{never, test, tests}
 use Rattle.answers.specs.declared.Refusal.{Refusal}
 use Rattle.answers.specs.declared.Refusal.the-variants.{BadArea, Damaged}
-use Rattle.record.specs.Answers.{Told, refuse}
+use Rattle.record.specs.Fields.{top}
 use Rattle.record.specs.declared.Record.{Record}
-use Rattle.wholeness.specs.Whole.{whole}
-use Rattle.log.specs.Log.{count, inputSound}
+use Rattle.log.specs.Log.{count, mostRoom, inputSound}
+use Rattle.log.proofs.Room.{input-head, input-size}
+use Rattle.demand_chains.specs.Chains.{after, heard}
 use Rattle.calls.specs.Calls.{step}
-use Rattle.demand_steps.proofs.Own.{damaged-step}
 use Rattle.input_events.specs.Events.{eventAt, bad}
 use Rattle.input_events.specs.Meaning.{meant}
 use Rattle.replays.specs.declared.Ending.{Ending}
 use Rattle.replays.specs.declared.Ending.the-variants.{Ran, Bad, Refused}
-use Rattle.replays.specs.Replaying.{Standing, start, refusedAt, goesOn, stopped, moved, next, run, holds, replayed}
-use Rattle.replays.proofs.Turns.{ended, halted}
-use Rattle.replay_laws.proofs.Running.{by-turn, kept, run-length, run-position, stays-before, stays-behind, ran-good, run-most}
+use Rattle.replays.specs.Replaying.{Standing, start, refusedAt, goesOn, stopped, moved, next, run, sizesFit, replayed, further}
+use Rattle.replays.proofs.Turns.{held, ended, halted}
+use Rattle.replay_laws.specs.Recording.{callsFrom}
+use Rattle.replay_laws.specs.Entering.{numbers}
+use Rattle.replay_laws.proofs.Calls.{ran-calls, within-count}
+use Rattle.replay_laws.proofs.Running.{run-length, run-position, stays-before, stays-behind, ran-good, run-most}
 use Rattle.replay_laws.proofs.Portions.{Stood, stood, is-unfit, is-unsound, is-run}
 use Rattle.replay_laws.proofs.Portions.Stood.{goes, stuck}
 
-pub record Gives (l : List ℕ) (p : ℕ) (a : List ℕ) (n : ℕ) (d : Standing) : Type 0 where
+pub record Gives (l : List ℕ) (p : ℕ) (r : Record) (a : List ℕ) (n : ℕ) (d : Standing) : Type 0 where
   -- "It runs at most the number of events it is given and reports how many it ran"
   pub at-most : d .ran ≤ n
   pub onward : d .position ≡ p + d .ran
@@ -42,7 +45,12 @@ pub record Gives (l : List ℕ) (p : ℕ) (a : List ℕ) (n : ℕ) (d : Standing
   pub behind : (i : ℕ) → p + d .ran ≤ i → getD (d .answers) i 0 ≡ getD a i 0
   -- "The first bad one is named by its number"
   pub good : (i : ℕ) → p ≤ i → i < p + d .ran → bad (eventAt l i) ≡ false
-  pub named : (k : ℕ) → d .ending ≡ Bad k → (k ≡ d .position) × (bad (eventAt l k) ≡ true)
+  pub named : (k : ℕ) → d .ending ≡ Bad k → (k ≡ d .position) × (k < count l) × (bad (eventAt l k) ≡ true)
+  -- "Words past the count are not read": no event behind those that the head counts is run
+  pub counted : 0 < d .ran → (d .position ≤ count l) × (count l ≤ mostRoom)
+  -- "Replaying gives the record and .. every answer number": those of the calls that the events that ran mean
+  pub record-after : d .state ≡ after r (callsFrom l p (d .ran))
+  pub answered : d .answers ≡ sets a p (numbers r (callsFrom l p (d .ran)))
 
 abbrev is-bad : Ending → Bool
 is-bad Ran = false
@@ -53,8 +61,6 @@ abbrev badAt : Ending → ℕ
 badAt Ran = 0
 badAt (Bad number) = number
 badAt (Refused why) = 0
-
--- where it stands behind the last event, at a bad one, or at one that is answered
 
 full : (n : ℕ) (l : List ℕ) (s : Standing) → s .ending ≡ Ran → run n l s .ending ≡ Ran → run n l s .ran < s .ran + n → count l ≤ run n l s .position
 unfolding next _or_
@@ -75,7 +81,8 @@ full (suc n) l s g e h =
     subst (λ (x : Standing). run n l x .ending ≡ Ran → run n l x .ran < s .ran + suc n → count l ≤ run n l x .position) (sym moves)
     (λ e h. full n l (moved t s) refl e (omega (arith, h))) e h))
 
-refused-gives : (l : List ℕ) (p : ℕ) (r : Record) (a : List ℕ) (n : ℕ) (why : Refusal) → Gives l p a n (refusedAt why p r a)
+refused-gives : (l : List ℕ) (p : ℕ) (r : Record) (a : List ℕ) (n : ℕ) (why : Refusal) → Gives l p r a n (refusedAt why p r a)
+unfolding after heard callsFrom
 refused-gives l p r a n why = record {
   at-most = omega arith;
   onward = sym (add-zero p);
@@ -85,16 +92,23 @@ refused-gives l p r a n why = record {
   behind = λ i h. refl;
   good = λ i h k. absurd (omega (arith, h, k));
   named = λ k e. never (sym (ap is-bad e));
+  counted = λ h. absurd (omega (arith, h));
+  record-after = refl;
+  answered = refl;
 }
 
-names : (l : List ℕ) (d : Standing) → Stood l d → (k : ℕ) → d .ending ≡ Bad k → (k ≡ d .position) × (bad (eventAt l k) ≡ true)
+names : (l : List ℕ) (d : Standing) → Stood l d → (k : ℕ) → d .ending ≡ Bad k → (k ≡ d .position) × (k < count l) × (bad (eventAt l k) ≡ true)
 names l d (goes f) k e = never (sym (ap is-bad (sym f ∙ e)))
-names l d (stuck f h b) k e = let at = ap badAt (sym e ∙ f) in (at, ap (λ (n : ℕ). bad (eventAt l n)) at ∙ b)
+names l d (stuck f h b) k e = let at = ap badAt (sym e ∙ f) in (at, omega (arith, at, h), ap (λ (n : ℕ). bad (eventAt l n)) at ∙ b)
 
-run-gives : (l : List ℕ) (p : ℕ) (r : Record) (a : List ℕ) (n : ℕ) → Gives l p a n (run n l (start p r a))
-run-gives l p r a n =
+run-gives : (l : List ℕ) (p : ℕ) (r : Record) (a : List ℕ) (n : ℕ) → sizesFit (length l) (length a) ≡ true → inputSound l ≡ true
+    → Gives l p r a n (run n l (start p r a))
+run-gives l p r a n h sound =
     let s = start p r a in
     let d = run n l s in
+    let g = ran-calls n l s in
+    let all : d .ran ≡ g .steps = omega (arith, g .ran) in
+    let head = input-head l sound in
     let on : d .position ≡ p + d .ran = omega (arith, run-position n l s) in
     record {
       at-most = omega (arith, run-most n l s);
@@ -105,45 +119,27 @@ run-gives l p r a n =
       behind = λ i h. stays-behind n l s i (omega (arith, h, on));
       good = λ i h k. ran-good n l s i h (omega (arith, k, on));
       named = λ k e. names l d (stood l n s refl) k e;
+      counted = λ z. (within-count n l s (λ f. absurd (omega (arith, f))) z, omega (arith, head .exact, head .within, input-size (length l) (held _ _ h .0) .1));
+      record-after = g .state ∙ ap (λ (k : ℕ). after r (callsFrom l p k)) (sym all);
+      answered = g .answers ∙ ap (λ (k : ℕ). sets a p (numbers r (callsFrom l p k))) (sym all);
     }
 
 -- by what a replay is: refused, or run
 pub by-replay : (P : Standing → Type 0) (l : List ℕ) (p : ℕ) (r : Record) (a : List ℕ) (n : ℕ) → ((why : Refusal) → P (refusedAt why p r a))
-    → P (run n l (start p r a)) → P (replayed l p r a n)
+    → (sizesFit (length l) (length a) ≡ true → inputSound l ≡ true → P (run n l (start p r a))) → P (replayed l p r a n)
 by-replay P l p r a n refuses runs =
-    test (holds (length l) (length a))
-    (λ h. test (inputSound l) (λ s. subst P (sym (is-run l p r a n h s)) runs) (λ s. subst P (sym (is-unsound l p r a n h s)) (refuses Damaged)))
+    test (sizesFit (length l) (length a))
+    (λ h. test (inputSound l) (λ s. subst P (sym (is-run l p r a n h s)) (runs h s)) (λ s. subst P (sym (is-unsound l p r a n h s)) (refuses Damaged)))
     (λ h. subst P (sym (is-unfit l p r a n h)) (refuses BadArea))
 
-pub replay-gives : (l : List ℕ) (p : ℕ) (r : Record) (a : List ℕ) (n : ℕ) → Gives l p a n (replayed l p r a n)
-replay-gives l p r a n = by-replay (Gives l p a n) l p r a n (refused-gives l p r a n) (run-gives l p r a n)
+pub replay-gives : (l : List ℕ) (p : ℕ) (r : Record) (a : List ℕ) (n : ℕ) → Gives l p r a n (replayed l p r a n)
+replay-gives l p r a n = by-replay (Gives l p r a n) l p r a n (refused-gives l p r a n) (run-gives l p r a n)
 
--- "A record that is not whole answers each event 7", and stays
-pub record Damages (p : ℕ) (r : Record) (a : List ℕ) (d : Standing) : Type 0 where
-  pub same-record : d .state ≡ r
-  pub same-length : length (d .answers) ≡ length a
-  pub seven : (i : ℕ) → p ≤ i → i < d .position → i < length a → getD (d .answers) i 0 ≡ 7
-
-pub damaged-throughout : (l : List ℕ) (p : ℕ) (r : Record) (a : List ℕ) (n : ℕ) → whole r ≡ false → Damages p r a (replayed l p r a n)
-damaged-throughout l p r a n w =
-    by-replay (Damages p r a) l p r a n
-    (λ why. record { same-record = refl; same-length = refl; seven = λ i h k m. absurd (omega (arith, h, k)) })
-    (kept (Damages p r a) l (λ s d. by-turn (Damages p r a) l s d (λ h b. record { same-record = d .same-record; same-length = d .same-length; seven = d .seven })
-    (λ b. answers7 s d)) n (start p r a) (record { same-record = refl; same-length = refl; seven = λ i h k m. absurd (omega (arith, h, k)) }))
-  where
-    answers7 : (s : Standing) → Damages p r a s → Damages p r a (moved (step (s .state) (meant (eventAt l (s .position)))) s)
-    answers7 s d =
-        let c = meant (eventAt l (s .position)) in
-        let is : step (s .state) c ≡ refuse Damaged r = ap (λ (x : Record). step x c) (d .same-record) ∙ damaged-step r c w in
-        record {
-          same-record = ap (λ (t : Told). t .state) is;
-          same-length = length-set (s .answers) (s .position) _ ∙ d .same-length;
-          seven = λ i h k m.
-              test (eqb i (s .position))
-              (λ q.
-              let at = eqb-true _ _ q in
-              ap (λ (n : ℕ). getD (set (s .answers) (s .position) (step (s .state) c .number)) n 0) at
-              ∙ getD-set-same (s .answers) (s .position) _ 0 (omega (arith, at, m, d .same-length))
-              ∙ ap (λ (t : Told). t .number) is)
-              (λ q. getD-set-other (s .answers) (s .position) i _ 0 (eqb-ne _ _ q) ∙ d .seven i h (omega tests) m);
-        }
+-- a reader that is moved on by the events that ran stands where the next portion begins
+pub advanced : (l : List ℕ) (p : ℕ) (r : Record) (a : List ℕ) (n : ℕ) → p ≤ top → let d = replayed l p r a n in further p (d .ran) ≡ d .position
+unfolding further
+advanced l p r a n h =
+    let d = replayed l p r a n in
+    let g = replay-gives l p r a n in
+    let fits : d .ran ≤ top - p = test (ltb 0 (d .ran)) (λ b. let c = g .counted (ltb-true _ _ b) in omega (arith, g .onward, c .0, c .1)) (λ b. omega tests) in
+    sym (yes _ (le-leb _ _ fits) (g .onward))

@@ -1,7 +1,11 @@
 pub mod Running
 pub mod Portions
+pub mod Calls
 pub mod Gives
+pub mod Damaged
 pub mod Events
+pub mod Good
+pub mod Backwards
 pub mod Chain
 pub mod Entering
 pub mod Written

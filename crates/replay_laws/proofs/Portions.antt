@@ -18,7 +18,7 @@ use Rattle.input_events.specs.Events.{eventAt, bad}
 use Rattle.input_events.specs.Meaning.{meant}
 use Rattle.replays.specs.declared.Ending.{Ending}
 use Rattle.replays.specs.declared.Ending.the-variants.{Ran, Bad}
-use Rattle.replays.specs.Replaying.{Standing, standing, start, refusedAt, goesOn, next, run, holds, replayed}
+use Rattle.replays.specs.Replaying.{Standing, standing, start, refusedAt, goesOn, next, run, sizesFit, replayed}
 use Rattle.replays.proofs.Turns.{halted, at-bad}
 use Rattle.replay_laws.specs.Portions.{bothEnd, joined}
 use Rattle.replay_laws.proofs.Running.{by-turn, kept, run-length, run-adds}
@@ -56,7 +56,7 @@ module _ (l : List ℕ) where
     stuck : s .ending ≡ Bad (s .position) → s .position < count l → bad (eventAt l (s .position)) ≡ true → Stood s
 
   pub stood : (n : ℕ) (s : Standing) → s .ending ≡ Ran → Stood (run n l s)
-  stood n s e = kept Stood l (λ t p. by-turn Stood l t p (λ h b. stuck refl h b) (λ b. goes refl)) n s (goes e)
+  stood n s e = kept Stood l (λ t p. by-turn Stood l t p (λ h b. stuck refl h b) (λ h b. goes refl)) n s (goes e)
 
   -- the portion that begins where another stands
   abbrev again : Standing → Standing
@@ -79,15 +79,15 @@ module _ (l : List ℕ) where
   goes-on n s (stuck e h b) = halted n l s (ap goesOn e) ∙ sym (at-once n s e h b)
 
 module _ (l : List ℕ) (p : ℕ) (r : Record) (a : List ℕ) where
-  pub is-unfit : (n : ℕ) → holds (length l) (length a) ≡ false → replayed l p r a n ≡ refusedAt BadArea p r a
+  pub is-unfit : (n : ℕ) → sizesFit (length l) (length a) ≡ false → replayed l p r a n ≡ refusedAt BadArea p r a
   unfolding replayed
   is-unfit n h = sym (yes _ (ap not h) refl)
 
-  pub is-unsound : (n : ℕ) → holds (length l) (length a) ≡ true → inputSound l ≡ false → replayed l p r a n ≡ refusedAt Damaged p r a
+  pub is-unsound : (n : ℕ) → sizesFit (length l) (length a) ≡ true → inputSound l ≡ false → replayed l p r a n ≡ refusedAt Damaged p r a
   unfolding replayed
   is-unsound n h s = sym (no _ (ap not h) (yes _ (ap not s) refl))
 
-  pub is-run : (n : ℕ) → holds (length l) (length a) ≡ true → inputSound l ≡ true → replayed l p r a n ≡ run n l (start p r a)
+  pub is-run : (n : ℕ) → sizesFit (length l) (length a) ≡ true → inputSound l ≡ true → replayed l p r a n ≡ run n l (start p r a)
   unfolding replayed
   is-run n h s = sym (no _ (ap not h) (no _ (ap not s) refl))
 
@@ -103,11 +103,11 @@ pub portions-add-up : (l : List ℕ) (p : ℕ) (r : Record) (a : List ℕ) (m n 
     → let one = replayed l p r a m in
     replayed l p r a (m + n) ≡ joined one (replayed l (one .position) (one .state) (one .answers) n)
 portions-add-up l p r a m n =
-    test (holds (length l) (length a))
+    test (sizesFit (length l) (length a))
     (λ h. test (inputSound l)
     (λ s.
     let one = run m l (start p r a) in
-    let still = ap (holds (length l)) (run-length m l (start p r a)) ∙ h in
+    let still = ap (sizesFit (length l)) (run-length m l (start p r a)) ∙ h in
     two l p r a m n (is-run l p r a m h s) (is-run l p r a (m + n) h s)
     (run-adds m n l (start p r a) ∙ goes-on l n one (stood l m (start p r a) refl)
     ∙ ap (joined one) (sym (is-run l (one .position) (one .state) (one .answers) n still s))))

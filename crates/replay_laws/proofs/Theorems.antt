@@ -1,5 +1,5 @@
--- Document 02, request 4: what a replay gives for every input, that replaying recorded calls is their chain, and that the recorder's log has
--- the replayed numbers. Portions stand in Portions.antt. Assumes nothing.
+-- Document 02, request 4: the promise determines what a replay gives, replaying recorded calls is their chain, and the recorder's log has the
+-- replayed numbers. What holds of every replay stands in Portions.antt, Gives.antt and Every.antt. Assumes nothing.
 use Prim.Native.Nat.{ℕ, zero, suc, _+_, _≤_}
 use mathlib.Core.Path.{_≡_, refl, sym, ap, _∙_}
 use mathlib.Core.Bool.{true}
@@ -21,7 +21,7 @@ use Rattle.demand_logs.specs.Logged.{logged, events}
 use Rattle.demand_logs.proofs.LoggedChains.{same-chain}
 use Rattle.replays.specs.declared.Replayed.{Replayed}
 use Rattle.replays.specs.declared.Ending.the-variants.{Ran}
-use Rattle.replays.specs.Replaying.{Standing, standing, stands, givenBack, start, holds, replayed}
+use Rattle.replays.specs.Replaying.{Standing, standing, stands, givenBack, start, sizesFit, replayed}
 use Rattle.replay_laws.specs.Recording.{Kept, Holds, inputOf}
 use Rattle.replay_laws.specs.Recording.Holds.{none, more}
 use Rattle.replay_laws.specs.Entering.{numbers, entriesOf}
@@ -50,8 +50,8 @@ module _ (room : ℕ) (cs : List Call) (rest a : List ℕ) (k : Kept room cs res
   abbrev l : List ℕ
   l = inputOf room cs rest
 
-  lent : holds (length l) (length a) ≡ true
-  unfolding holds
+  lent : sizesFit (length l) (length a) ≡ true
+  unfolding sizesFit
   lent =
       let e = input-length room cs rest (k .enough) (k .filled) in
       join (input-sized room cs rest (k .least) (k .most) e) (le-leb (roomBy inputWidth (length l)) (length a) (omega (arith, e, h)))

@@ -14,7 +14,7 @@ use Rattle.log.specs.Log.{count, headWords, mostRoom, inputWidth, wordsOf, room
 use Rattle.calls.specs.Calls.{Call}
 use Rattle.input_events.specs.declared.Event.{Event}
 use Rattle.input_events.specs.Events.{eventFrom, eventAt}
-use Rattle.replay_laws.specs.Recording.{recorded, allRecorded, eventOf, wordsOfEvent, eventWords, inputOf, Holds}
+use Rattle.replay_laws.specs.Recording.{isRecorded, allRecorded, eventOf, wordsOfEvent, eventWords, inputOf, Holds}
 use Rattle.replay_laws.specs.Recording.Holds.{none, more}
 
 -- the eight words behind so many others are the event
@@ -46,7 +46,7 @@ events-from : (cs : List Call) (front rest : List ℕ) (l : List ℕ) (at : ℕ)
 unfolding eventWords allRecorded eventAt
 events-from [] front rest l at e f h r = none
 events-from (c ∷ cs) front rest l at e f h r =
-    let x = both {a = recorded c} {b = allRecorded cs} r in
+    let x = both {a = isRecorded c} {b = allRecorded cs} r in
     let here = wordsOfEvent (eventOf c) in
     let behind = eventWords cs ++ rest in
     let joins : (here ++ eventWords cs) ++ rest ≡ here ++ behind = append-assoc here (eventWords cs) rest in

@@ -1,5 +1,5 @@
 -- Document 02, request 4: the event of a recorded call, and an input log that holds the events of such calls. Assumes nothing.
-use Prim.Native.Nat.{ℕ, _+_, _*_, _-_, _≤_, _<_}
+use Prim.Native.Nat.{ℕ, zero, suc, _+_, _*_, _-_, _≤_, _<_}
 use mathlib.Core.Path.{_≡_}
 use mathlib.Core.Bool.{Bool, true, not}
 use mathlib.Core.List.{List, [], _∷_, _++_}
@@ -14,16 +14,17 @@ use Rattle.calls.specs.Calls.Report.{structured, updated, rolledBack}
 use Rattle.calls.specs.Calls.Call.{begin, ask, report, edit, commit, recover, recoverRetained, refresh, stamp, check}
 use Rattle.calls.specs.Kinds.{noKind, kindOf}
 use Rattle.input_events.specs.declared.Event.{Event}
+use Rattle.input_events.specs.Meaning.{meant}
 use Rattle.input_events.specs.Events.{waiting, failed, done, noEvent, eventAt}
 
 -- the calls that have a kind
-abbrev pub recorded : Call → Bool
-recorded c = not (eqb (kindOf c) noKind)
+abbrev pub isRecorded : Call → Bool
+isRecorded c = not (eqb (kindOf c) noKind)
 
 unfoldable pub allRecorded : List Call → Bool
 unfolding _and_
 allRecorded [] = true
-allRecorded (c ∷ cs) = recorded c and allRecorded cs
+allRecorded (c ∷ cs) = isRecorded c and allRecorded cs
 
 -- "outcome (0 Waiting, 1 Failed, 2 Done), code"
 abbrev pub outcomeWord : Outcome → ℕ
@@ -86,6 +87,11 @@ eventWords (c ∷ cs) = wordsOfEvent (eventOf c) ++ eventWords cs
 unfoldable pub inputOf : ℕ → List Call → List ℕ → List ℕ
 inputOf room cs rest = length cs ∷ headWords ∷ room ∷ 0 ∷ (eventWords cs ++ rest)
 
+-- the calls that the next n events mean
+unfoldable pub callsFrom : List ℕ → ℕ → ℕ → List Call
+callsFrom l at zero = []
+callsFrom l at (suc n) = meant (eventAt l at) ∷ callsFrom l (at + 1) n
+
 -- recorded calls with an input log for them: "room (1 to 1,024)", at least as many as there are calls, and as many words as it says
 pub record Kept (room : ℕ) (cs : List Call) (rest : List ℕ) : Type 0 where
   pub recorded-all : allRecorded cs ≡ true
@@ -97,4 +103,4 @@ pub record Kept (room : ℕ) (cs : List Call) (rest : List ℕ) : Type 0 where
 -- an input log has the events of these calls, from a number on
 pub data Holds (l : List ℕ) : ℕ → List Call → Type 0 where
   none : {at : ℕ} → Holds l at []
-  more : {at : ℕ} {c : Call} {cs : List Call} → at < count l → eventAt l at ≡ eventOf c → recorded c ≡ true → Holds l (at + 1) cs → Holds l at (c ∷ cs)
+  more : {at : ℕ} {c : Call} {cs : List Call} → at < count l → eventAt l at ≡ eventOf c → isRecorded c ≡ true → Holds l (at + 1) cs → Holds l at (c ∷ cs)
