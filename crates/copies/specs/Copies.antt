@@ -1,6 +1,6 @@
 -- The blocks in which lent bytes are copied. Assumes nothing.
 use Prim.Native.Nat.{ℕ}
 
--- how many bytes are copied at a time; nothing else hangs on it
+-- how many bytes at most are copied at a time; no promise of a public function hangs on it
 abbrev pub blockSize : ℕ
-blockSize = 128
+blockSize = 2048

@@ -1,36 +1,28 @@
 // Copying lent bytes by blocks: a payload to the front of an area. What does not fit is left alone.
 ghost use mathlib.Core.Path.{_≡_};
 ghost use Prim.Native.Nat.{_+_, _≤_};
-ghost use lib.ListN.{length, take, drop};
+ghost use lib.ListN.{length, drop};
 ghost use lib.Seq.{paste};
 ghost use Rattle.areas.specs.Areas.{copied};
 ghost use Rattle.copies.specs.Copies.{blockSize};
 
-// So many bytes are copied at a time. All of them are read before the first is written, so that no turn looks whether the two
-// slices overlap.
-const BLOCK: usize = 128;
+// So many bytes at most are copied at a time: of the sizes tried the quickest for a whole area.
+const BLOCK: usize = 2048;
 
-// The block of src that starts at a place.
-fn block_at(src: &[u8], at: usize) -> [u8; BLOCK]
-    requires { ⌜ at + blockSize ≤ length (now src) ⌝ }
-    ensures { λ b. ⌜ b ≡ take blockSize (drop at (now (src .entry))) ⌝ }
+// The n bytes of src from a place on over those of dst at the same place, through a local array: all are read before the first is written, so that the
+// compiler, which is not told that the two slices lie apart, moves them at once and keeps no array.
+fn copy_part(dst: &mut [u8], src: &[u8], at: usize, n: usize)
+    requires { ⌜ (n ≤ blockSize) × (at + n ≤ length (now src)) × (at + n ≤ length (now dst)) ⌝ }
+    ensures { λ _. ⌜ now (dst .exit) ≡ paste (now (dst .entry)) at (drop at (now (src .entry))) n ⌝ }
 {
     let mut block = [0; BLOCK];
     let mut j = 0;
-    while j < BLOCK {
+    while j < n {
         block[j] = src[at + j];
         j += 1;
     }
-    block
-}
-
-// A block over the bytes of dst that start at a place.
-fn put_block(dst: &mut [u8], at: usize, block: [u8; BLOCK])
-    requires { ⌜ at + blockSize ≤ length (now dst) ⌝ }
-    ensures { λ _. ⌜ now (dst .exit) ≡ paste (now (dst .entry)) at block blockSize ⌝ }
-{
-    let mut j = 0;
-    while j < BLOCK {
+    j = 0;
+    while j < n {
         dst[at + j] = block[j];
         j += 1;
     }
@@ -45,13 +37,9 @@ pub fn copy_bytes(dst: &mut [u8], src: &[u8])
         return;
     }
     let mut i = 0;
-    while BLOCK <= n - i {
-        let block = block_at(src, i);
-        put_block(dst, i, block);
+    while BLOCK < n - i {
+        copy_part(dst, src, i, BLOCK);
         i += BLOCK;
     }
-    while i < n {
-        dst[i] = src[i];
-        i += 1;
-    }
+    copy_part(dst, src, i, n - i);
 }
