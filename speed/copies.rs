@@ -1,4 +1,4 @@
-//! Copying and exchanging whole areas: the proved functions, linked from
+//! Copying and exchanging areas and parts of them: the proved functions, linked from
 //! target/staticlib/libedge.a, beside Rust's own and beside plain loops with
 //! checked indices.
 //!
@@ -72,23 +72,63 @@ const EXCHANGES: [Contender; 3] = [
     ("Rust, index loop", exchange_loop),
 ];
 
+/// The byte at a place of the first and of the second of two areas: they differ
+/// at every place, so that a byte that did not move is seen.
+fn bytes_at(i: usize) -> (u8, u8) {
+    ((i % 127) as u8, (128 + i % 113) as u8)
+}
+
 fn areas() -> (Area, Area) {
     let (mut a, mut b) = (Area([0; AREA]), Area([0; AREA]));
     for i in 0..AREA {
-        a.0[i] = (i % 251) as u8;
-        b.0[i] = (i % 241) as u8;
+        let (x, y) = bytes_at(i);
+        a.0[i] = x;
+        b.0[i] = y;
     }
     (a, b)
 }
 
-/// All contenders leave the same bytes, or the program stops.
+/// Room for the sizes at which the contenders are compared: more than an area,
+/// so that a copy has several blocks.
+const ROOM: usize = 6200;
+
+fn rooms() -> (Vec<u8>, Vec<u8>) {
+    (0..ROOM).map(bytes_at).unzip()
+}
+
+/// The sizes, on both sides of the blocks that the proved functions go by.
+fn sizes() -> impl Iterator<Item = usize> {
+    (0..=200).chain(2040..=2060).chain(4080..=4110).chain(6140..=6150)
+}
+
+/// All contenders leave the same bytes at every size, or the program stops.
 fn agree(contenders: &[Contender]) {
-    let (mut wanted_a, mut wanted_b) = areas();
-    contenders[0].1(&mut wanted_a.0, &mut wanted_b.0);
-    for (name, call) in contenders {
-        let (mut a, mut b) = areas();
-        call(&mut a.0, &mut b.0);
-        assert!(a.0 == wanted_a.0 && b.0 == wanted_b.0, "{} leaves other bytes", name);
+    for n in sizes() {
+        let wanted = after(contenders[0].1, n, n);
+        for (name, call) in contenders {
+            assert!(after(*call, n, n) == wanted, "{} leaves other bytes at {}", name, n);
+        }
+    }
+}
+
+/// Both rooms after a call that was lent the first bytes of each.
+fn after(call: fn(&mut [u8], &mut [u8]), n: usize, m: usize) -> (Vec<u8>, Vec<u8>) {
+    let (mut a, mut b) = rooms();
+    call(&mut a[..n], &mut b[..m]);
+    (a, b)
+}
+
+/// The proved functions at two sizes, for which Rust's have no meaning: areas of
+/// two sizes stay, what is too long is not copied, and what is shorter is.
+fn two_sizes() {
+    let old = rooms();
+    for (n, m) in sizes().zip(sizes().skip(1)) {
+        assert!(after(exchange_proved, n, m) == old, "{} and {} were exchanged", n, m);
+        assert!(after(exchange_proved, m, n) == old, "{} and {} were exchanged", m, n);
+        assert!(after(copy_proved, n, m) == old, "{} were copied to {}", m, n);
+        let (a, b) = after(copy_proved, m, n);
+        let copied = a[..n] == old.1[..n] && a[n..] == old.0[n..];
+        assert!(copied && b == old.1, "the copy of {} to {} differs", n, m);
     }
 }
 
@@ -102,6 +142,7 @@ fn race(title: &str, contenders: &[Contender]) {
 }
 
 fn main() {
+    two_sizes();
     race("copy", &COPIES);
     race("exchange", &EXCHANGES);
 }
