@@ -17,8 +17,7 @@ use Rattle.demand_steps.specs.Knowing.{Item, Watch, unwatched}
 use Rattle.demand_steps.specs.Watching.{watch}
 use Rattle.demand_steps.proofs.{Facts.Stage, Facts.tests, Facts.Behind, Facts.by_case, Testing.ranges, Calming.range, Wholeness.whole_test}
 use Rattle.demand_steps.proofs.Facts.Stage.{flat, flat_back, before, updating, after, undoing, backing}
-use Rattle.demand_chains.specs.{Sending.Sent, Sending.after_sent, Sending.heard_sent, Plans.plan_at, Plans.back_at, Plans.firsts}
-use Rattle.plans.specs.Counts.{planned_back}
+use Rattle.demand_chains.specs.{Sending.Sent, Sending.after_sent, Sending.heard_sent, Plans.plan_at, Plans.planned_back, Plans.back_at, Plans.firsts}
 use Rattle.demand_chains.proofs.{Course.Kind, Course.Course, Course.Kind.update_only, Course.Kind.structural, Course.Course.ahead, Course.Course.behind, Chain.Good, Theorems.good}
 use Rattle.clauses.specs.{Successes.is_update, Successes.successes, Chains.Undone, Ending.CanRecover}
 use Rattle.clauses.proofs.Endings.{commit_clauses, recover-clauses}

@@ -5,8 +5,7 @@ use Rattle.phases.specs.Phases.{remove, settle_removed, mount, settle_mounted, a
 use Rattle.record.specs.declared.Record.{Record}
 use Rattle.demand_steps.specs.Knowing.{Item, Watch}
 use Rattle.demand_steps.specs.Knowing.Item.{settle, apply, undo, unknown}
-use Rattle.plans.specs.Counts.{planned_back}
-use Rattle.demand_chains.specs.Plans.{back_at, firsts}
+use Rattle.demand_chains.specs.Plans.{planned_back, back_at, firsts}
 
 -- C36, C37: `forward_stages()` and `recovery_stages()`
 abbrev pub forward_stages : List ℕ

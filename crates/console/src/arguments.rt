@@ -4,7 +4,7 @@ use text::front;
 
 // An argument that is to be a number: it is none, or none was given.
 #[derive(Drop)]
-enum Argument {
+pub enum Argument {
     Number(u64),
     Wrong,
     Missing,
@@ -23,7 +23,7 @@ pub fn asks_for_help() -> bool {
 }
 
 // The decimal number that is the argument of a place, from 1 on.
-fn number_at(place: usize) -> Argument {
+pub fn number_at(place: usize) -> Argument {
     if os::arg_count() <= place {
         return Argument::Missing;
     }
@@ -37,41 +37,4 @@ fn number_at(place: usize) -> Argument {
         return Argument::Number(value);
     }
     Argument::Wrong
-}
-
-// Whether the argument of a place is there and no number.
-fn is_wrong(place: usize) -> bool {
-    match number_at(place) {
-        Argument::Number(_) => false,
-        Argument::Wrong => true,
-        Argument::Missing => false,
-    }
-}
-
-// Whether the number of words that the program is given, its own name among them, is at least and at most so much.
-pub fn counts_within(least: usize, most: usize) -> bool {
-    let count = os::arg_count();
-    (least <= count) & (count <= most)
-}
-
-// Whether an argument from a place on is no number.
-pub fn has_wrong(from: usize) -> bool {
-    let count = os::arg_count();
-    let mut i = from;
-    while i < count {
-        if is_wrong(i) {
-            return true;
-        }
-        i += 1;
-    }
-    false
-}
-
-// The number that is the argument of a place, or another where there is none.
-pub fn number_or(place: usize, otherwise: u64) -> u64 {
-    match number_at(place) {
-        Argument::Number(value) => value,
-        Argument::Wrong => otherwise,
-        Argument::Missing => otherwise,
-    }
 }

@@ -47,23 +47,12 @@ fn read_all(fd: i32, into: &mut [u8]) -> Contents {
 }
 
 // The bytes of the file of a path go to `into`, as many as there is room for.
-fn read_file(path: &[u8], into: &mut [u8]) -> Contents {
+pub fn read_file(path: &[u8], into: &mut [u8]) -> Contents {
     let fd = os::open_read(path);
     if fd < 0 {
         return Contents::Unreadable;
     }
     let contents = read_all(fd, into);
     libc::close(fd);
-    contents
-}
-
-// The same of the file that the argument of a place names. Why it cannot be read is told on standard error.
-pub fn read_named(place: usize, into: &mut [u8]) -> Contents {
-    let mut path = io::buffer();
-    let length = os::arg(place, &mut path);
-    let contents = read_file(front(&path, length), into);
-    if let Contents::Unreadable = contents {
-        os::fail(front(&path, length));
-    }
     contents
 }

@@ -1,5 +1,5 @@
-// Writing to standard output by way of a buffer, of which the first `written` bytes wait, and lines on standard error.
-use libc::{STDERR_FILENO, STDOUT_FILENO};
+// Writing to standard output by way of a buffer, of which the first `written` bytes wait.
+use libc::STDOUT_FILENO;
 use text::front;
 
 fn lacks_room(size: usize, written: usize, room: usize) -> bool {
@@ -19,12 +19,4 @@ pub fn flush_before(due: bool, buffer: &[u8], written: usize, room: usize, what:
         os::fail(what);
     }
     0
-}
-
-// A line on standard error: what a program has to say of its work.
-pub fn tell(program: &[u8], what: &[u8]) {
-    io::write_all(STDERR_FILENO, program);
-    io::write_all(STDERR_FILENO, b": ");
-    io::write_all(STDERR_FILENO, what);
-    io::write_all(STDERR_FILENO, b"\n");
 }

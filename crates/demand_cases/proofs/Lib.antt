@@ -8,4 +8,3 @@ pub mod Stored
 pub mod LoggedExhibit
 pub mod HeldExhibit
 pub mod ReplayExhibit
-pub mod PlainExhibit

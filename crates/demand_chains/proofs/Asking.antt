@@ -13,8 +13,7 @@ use Rattle.calls.specs.Calls.{Call}
 use Rattle.calls.specs.Calls.Work.{structure, update, rollback}
 use Rattle.calls.specs.Calls.Call.{ask}
 use Rattle.demand_steps.specs.Knowing.{Watch}
-use Rattle.plans.specs.Counts.{planned, planned_back}
-use Rattle.demand_chains.specs.Plans.{due}
+use Rattle.demand_chains.specs.Plans.{planned, planned_back, due}
 use Rattle.demand_chains.specs.Promises.{Asking}
 use Rattle.demand_steps.proofs.Leaf.{Apart}
 use Rattle.demand_steps.proofs.Facts.{Stage, Whole, by_case}

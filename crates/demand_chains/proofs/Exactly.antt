@@ -18,8 +18,7 @@ use Rattle.step_recoveries.specs.Recovering.{unrestored, recover_retained_own}
 use Rattle.calls.specs.Calls.{step}
 use Rattle.calls.specs.Calls.Call.{commit, recover_retained}
 use Rattle.demand_steps.specs.Knowing.{Item, Watch}
-use Rattle.plans.specs.Counts.{planned, planned_back}
-use Rattle.demand_chains.specs.Plans.{firsts}
+use Rattle.demand_chains.specs.Plans.{planned, planned_back, firsts}
 use Rattle.demand_chains.specs.Promises.{Forward, Backward}
 use Rattle.demand_steps.proofs.Own.{own}
 use Rattle.demand_steps.proofs.Facts.{Stage, Whole, tests, by_case}
@@ -30,7 +29,7 @@ use Rattle.demand_chains.proofs.Course.Kind.{update_only, structural}
 use Rattle.demand_chains.proofs.Course.Course.{ahead, behind}
 use Rattle.demand_chains.proofs.Chain.{Good, undamaged}
 
-pub length_firsts : (plan : ℕ → Item) (m : ℕ) → length (firsts plan m) ≡ m
+length_firsts : (plan : ℕ → Item) (m : ℕ) → length (firsts plan m) ≡ m
 length_firsts plan zero = refl
 length_firsts plan (suc m) = simp (length-append, length_firsts plan m) (omega arith)
 

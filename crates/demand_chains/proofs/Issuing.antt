@@ -77,18 +77,18 @@ module _ (r : Record) (t : ℕ) where
   live : (k : ℕ) (x y : Told) → is_live k t r.live ≡ true → Takes y → Takes (pick (not (is_live k t r.live)) x y)
   live k x y e p = picked Takes _ (λ i. clash _ e (not-true _ i)) (λ i. p)
 
-  takes_structure_lem : (c o : ℕ) → r.live ≡ Structure t → c ≤ area_size → o ≤ area_size → Takes (own r (report (structured c o) t Done))
+  takes_structure : (c o : ℕ) → r.live ≡ Structure t → c ≤ area_size → o ≤ area_size → Takes (own r (report (structured c o) t Done))
   unfolding own report_structure_own reported structure_done is_live ◌and◌
-  takes_structure_lem c o e p q =
+  takes_structure c o e p q =
       live _ _ _ (rw e (eq-eqb t t refl)) (subst Takes (sym (payloads_pass [] r _ p q)) (each Takes _ refl refl))
 
-  takes_update_lem : r.live ≡ Update t → Takes (own r (report updated t Done))
+  takes_update : r.live ≡ Update t → Takes (own r (report updated t Done))
   unfolding own report_update_own reported update_done is_live ◌and◌
-  takes_update_lem e = live _ _ _ (rw e (eq-eqb t t refl)) (each Takes _ refl refl)
+  takes_update e = live _ _ _ (rw e (eq-eqb t t refl)) (each Takes _ refl refl)
 
-  takes_rollback_lem : r.live ≡ Rollback t → Takes (own r (report rolledBack t Done))
+  takes_rollback : r.live ≡ Rollback t → Takes (own r (report rolledBack t Done))
   unfolding own report_rollback_own reported rollback_done is_live ◌and◌
-  takes_rollback_lem e = live _ _ _ (rw e (eq-eqb t t refl)) (each Takes _ refl refl)
+  takes_rollback e = live _ _ _ (rw e (eq-eqb t t refl)) (each Takes _ refl refl)
 
 -- after the asking, the record is whole and its ticket live; only a whole record gives one
 record Issued (live : Live) (r : Record) : Type 0 where
@@ -111,13 +111,13 @@ pub done_taken : (r : Record) (c d : Call) (t i : ℕ) → Typed (standing r) �
 unfolding own
 done_taken r c d t i m h (for_structure {candidate = x} {recovery = y} p q) =
     let a = issued Structure r (ask structure) t i m (structure_issues r) h in
-    rw (whole_step _ (report (structured x y) t Done) a.is_whole) (takes_structure_lem _ t x y a.is_live p q)
+    rw (whole_step _ (report (structured x y) t Done) a.is_whole) (takes_structure _ t x y a.is_live p q)
 done_taken r c d t i m h for_update =
     let a = issued Update r (ask update) t i m (update_issues r) h in
-    rw (whole_step _ (report updated t Done) a.is_whole) (takes_update_lem _ t a.is_live)
+    rw (whole_step _ (report updated t Done) a.is_whole) (takes_update _ t a.is_live)
 done_taken r c d t i m h for_rollback =
     let a = issued Rollback r (ask rollback) t i m (rollback_issues r) h in
-    rw (whole_step _ (report rolledBack t Done) a.is_whole) (takes_rollback_lem _ t a.is_live)
+    rw (whole_step _ (report rolledBack t Done) a.is_whole) (takes_rollback _ t a.is_live)
 
 -- the ticket that a due asking is answered with, and a report of it
 pub record Ticket (r : Record) (c : Call) : Type 0 where
@@ -126,13 +126,13 @@ pub record Ticket (r : Record) (c : Call) : Type 0 where
   pub report : Call
   pub answered : said_of (step r c) ≡ says (A.Ticket number item)
   pub raised : (step r c).state.serial ≡ r.serial + 1
-  pub is_done_lem : DoneReport number c report
+  pub is_done : DoneReport number c report
 
 module _ {r : Record} (w : Whole r) where
   ticket : {live : ℕ → Live} (c d : Call) → Issues live r (own r c) → ticketed (step r c).class ≡ true → DoneReport (r.serial + 1) c d → Ticket r c
   ticket {live} c d f n q =
       let x : Issues live r (step r c) = rw (undamaged c w) f in
-      record { number = r.serial + 1; item = get_or (step r c).values 1 0; report = d; answered = x.carries n; raised = x.raises n; is_done_lem = q }
+      record { number = r.serial + 1; item = get_or (step r c).values 1 0; report = d; answered = x.carries n; raised = x.raises n; is_done = q }
 
   pub ticket_of : {c : Call} → Due r c → ticketed (step r c).class ≡ true → Ticket r c
   unfolding own

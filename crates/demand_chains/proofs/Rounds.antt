@@ -75,10 +75,10 @@ with_ticket_lem {w} {r} c g e n =
     let t = ticket_of g.is_whole d n in
     record {
       calls = c ∷ t.report ∷ [];
-      by_work = join (asks_work d) (join (reports_work t.is_done_lem) refl);
+      by_work = join (asks_work d) (join (reports_work t.is_done) refl);
       good = good_leaf (leaf _ t.report) (good_leaf (leaf r c) g);
-      noted = counts-one w r g c e t.number t.item t.report t.answered t.is_done_lem;
-      serial = reports t.is_done_lem (leaf _ t.report) ∙ t.raised;
+      noted = counts-one w r g c e t.number t.item t.report t.answered t.is_done;
+      serial = reports t.is_done (leaf _ t.report) ∙ t.raised;
     }
 
 -- an asking that the watcher notes nothing for, and then calls

@@ -30,8 +30,7 @@ use Rattle.demand_chains.specs.Sending.{Sent, after_sent, heard_sent}
 use Rattle.demand_steps.specs.Typed.{Typed}
 use Rattle.demand_steps.specs.Knowing.{Watch, unwatched}
 use Rattle.demand_steps.specs.Watching.{watch}
-use Rattle.plans.specs.Counts.{planned, planned_back}
-use Rattle.demand_chains.specs.Plans.{due}
+use Rattle.demand_chains.specs.Plans.{planned, planned_back, due}
 use Rattle.demand_chains.specs.Promises.{stamp_passes, revision_after, replacements_after, Forward, Backward, Asking}
 use Rattle.demand_chains.specs.Progress.{counted, wanted, Progress, Finishes}
 use Rattle.demand_chains.specs.Turning.{recovered_in, UntilRecovery, Recoveries, back, untouched}
@@ -47,7 +46,7 @@ use Rattle.demand_chains.proofs.Revision.{chain_gains, chain_counts}
 use Rattle.demand_chains.proofs.Stamps.{stamp_law}
 use Rattle.demand_chains.proofs.Demands.{demand_three}
 
-pub good_opening : (given : Opening) (l : ℕ) → Typed given → l ≤ area_size → Good unwatched (opening given l)
+good_opening : (given : Opening) (l : ℕ) → Typed given → l ≤ area_size → Good unwatched (opening given l)
 unfolding opening unwatched
 good_opening given l m h = record {
   is_whole = idles given l m h;

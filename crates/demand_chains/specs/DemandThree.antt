@@ -8,8 +8,7 @@ use Rattle.calls.specs.Calls.{Call}
 use Rattle.demand_chains.specs.Sending.{Sent, after_sent, heard_sent}
 use Rattle.demand_steps.specs.Knowing.{Watch}
 use Rattle.demand_steps.specs.Watching.{watch}
-use Rattle.plans.specs.Counts.{planned, planned_back}
-use Rattle.demand_chains.specs.Plans.{due}
+use Rattle.demand_chains.specs.Plans.{planned, planned_back, due}
 use Rattle.demand_chains.specs.Promises.{revision_after, replacements_after, Forward, Backward, Asking}
 use Rattle.demand_chains.specs.Progress.{counted, wanted, Progress, Finishes}
 use Rattle.demand_chains.specs.Turning.{recovered_in, UntilRecovery, Recoveries, back, untouched}

@@ -1,8 +1,7 @@
--- Demand 3: what the Done reports that are taken are for, in the fixed order; and the due asking. How many there are stands in the crate
--- `plans`. Assumes nothing.
+-- Demand 3: what the Done reports that are taken are for, in the fixed order, and how many there are; and the due asking. Assumes
+-- nothing.
 use Rattle.std.specs.Prelude.{ℕ, zero, suc, ◌+◌, ◌-◌, Bool, true, false, not, List, [], ◌∷◌, ◌++◌, eqb, ltb}
 use Rattle.choice.specs.Pick.{pick, ◌and◌, ◌or◌}
-use Rattle.plans.specs.Counts.{lead}
 use Rattle.phases.specs.Phases.{none, remove, updates, adopt, recover_remove, has_successor}
 use Rattle.record.specs.declared.Record.{Record}
 use Rattle.calls.specs.Calls.{Call}
@@ -11,11 +10,20 @@ use Rattle.calls.specs.Calls.Call.{begin, ask, report, edit, commit, recover, re
 use Rattle.demand_steps.specs.Knowing.{Item}
 use Rattle.demand_steps.specs.Knowing.Item.{settle, apply, undo}
 
+-- "5 + n Done reports that are taken (n if update-only)"
+abbrev pub planned : Bool → ℕ → ℕ
+planned true n = 5 + n
+planned false n = n
+
 -- "in the fixed order": the phases 1 to 4, the n updates, phase 6
 abbrev pub plan_at : Bool → ℕ → ℕ → Item
-plan_at true n i =
-    pick (ltb i (lead true)) (settle (remove + i)) (pick (ltb i (lead true + n)) (apply (i - lead true)) (settle adopt))
+plan_at true n i = pick (ltb i 4) (settle (remove + i)) (pick (ltb i (4 + n)) (apply (i - 4)) (settle adopt))
 plan_at false n i = apply i
+
+-- "k + 4 further Done reports that are taken (k if update-only)"
+abbrev pub planned_back : Bool → ℕ → ℕ
+planned_back true k = k + 4
+planned_back false k = k
 
 -- "the k undos in reverse order", then the phases 9 to 12
 abbrev pub back_at : ℕ → ℕ → Item

@@ -21,7 +21,7 @@ use Rattle.calls.specs.Kinds.{kind_of, step_kind}
 use Rattle.demand_chains.specs.Chains.{after, heard}
 use Rattle.demand_steps.specs.Knowing.{Watch}
 use Rattle.demand_steps.specs.Watching.{watch}
-use Rattle.plans.specs.Counts.{planned, planned_back}
+use Rattle.demand_chains.specs.Plans.{planned, planned_back}
 
 -- the report of a ticket that an asking was answered with: of its kind of work, Done, "payloads" of at most 4,096 bytes
 pub data DoneReport (ticket : ℕ) : Call → Call → Type 0 where

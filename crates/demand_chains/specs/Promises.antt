@@ -7,8 +7,7 @@ use Rattle.record.specs.declared.Record.{Record}
 use Rattle.calls.specs.Calls.{Call, step}
 use Rattle.calls.specs.Calls.Call.{commit, recover_retained}
 use Rattle.demand_steps.specs.Knowing.{Watch}
-use Rattle.plans.specs.Counts.{planned, planned_back, is_done, is_back}
-use Rattle.demand_chains.specs.Plans.{plan_at, back_at, firsts, due}
+use Rattle.demand_chains.specs.Plans.{planned, plan_at, planned_back, back_at, firsts, due}
 
 -- "a stamp taken in it passes exactly if nothing is staged, the domain is equal and", by request 3, "no commit, recovery or refresh has
 -- succeeded since"
@@ -27,14 +26,14 @@ replacements_after opening replacements = opening + replacements
 pub record Forward (r : Record) (w : Watch) : Type 0 where
   pub order : w.done ≡ firsts (plan_at w.structural w.size) (length w.done)
   pub within : length w.done ≤ planned w.structural w.size
-  pub exact : successful (step r commit).class ≡ is_done w.structural w.size (length w.done)
+  pub exact : successful (step r commit).class ≡ eqb (length w.done) (planned w.structural w.size)
 
 -- "with k updates started, recovery from the retained payload succeeds exactly after k + 4 further Done reports that are taken (k if
 -- update-only), the k undos in reverse order"
 pub record Backward (r : Record) (w : Watch) : Type 0 where
   pub order : w.undone ≡ firsts (back_at w.started) (length w.undone)
   pub within : length w.undone ≤ planned_back w.structural w.started
-  pub exact : successful (step r recover_retained).class ≡ is_back w.structural w.started (length w.undone)
+  pub exact : successful (step r recover_retained).class ≡ eqb (length w.undone) (planned_back w.structural w.started)
 
 -- "the due asking of document 01 is granted, unless the serial is at its maximum"
 pub record Asking (r : Record) : Type 0 where

@@ -1,8 +1,6 @@
 -- Demand 3: what a granted rollback fixes until the recovery, and recovery where none was granted. Assumes nothing.
-use Rattle.std.specs.Prelude.{ℕ, ◌≡◌, Bool, true, false, List, [], ◌∷◌, eqb, length}
+use Rattle.std.specs.Prelude.{ℕ, ◌≡◌, Bool, true, false, not, List, [], ◌∷◌, eqb, length}
 use Rattle.choice.specs.Pick.{pick, ◌and◌, ◌or◌}
-use Rattle.plans.specs.Counts as Counts
-use Rattle.plans.specs.Counts.{is_back}
 use Rattle.areas.specs.Areas.{long}
 use Rattle.answers.specs.Classes.{successful}
 use Rattle.record.specs.declared.Record.{Record}
@@ -11,6 +9,7 @@ use Rattle.calls.specs.Calls.{step}
 use Rattle.calls.specs.Calls.Call.{commit, recover, recover_retained}
 use Rattle.calls.specs.Kinds.{kind_of}
 use Rattle.demand_steps.specs.Knowing.{Heard, Watch}
+use Rattle.demand_chains.specs.Plans.{planned_back}
 
 -- a recovery that is performed
 abbrev pub recovers : Heard → Bool
@@ -38,8 +37,8 @@ pub record Recoveries (r : Record) (undone : Bool) : Type 0 where
 
 -- "the k undos in reverse order", then the phases 9 to 12: all of them
 abbrev pub back : Watch → Bool
-back w = is_back w.structural w.started (length w.undone)
+back w = eqb (length w.undone) (planned_back w.structural w.started)
 
--- with no rollback granted
+-- with no rollback granted only an update-only transaction without actions leaves nothing to undo
 abbrev pub untouched : Watch → Bool
-untouched w = Counts.untouched w.structural w.size
+untouched w = not w.structural and eqb w.size 0

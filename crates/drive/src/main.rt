@@ -41,6 +41,6 @@ fn main() {
         print_usage(STDOUT_FILENO);
         return;
     }
-    console::tell(b"drive", b"it takes no argument but help");
+    io::write_all(STDERR_FILENO, b"drive: it takes no argument but help\n");
     print_usage(STDERR_FILENO);
 }

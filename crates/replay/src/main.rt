@@ -1,17 +1,13 @@
 // The program `replay`: it reads an input log from a file, opens a record, replays the log's events in portions, and writes each event
 // with its answer, how the replay ended, and the record. What it writes is fixed by docs/REPLAY.md.
+mod given;
 mod output;
 mod play;
 
+use console::Contents;
+use given::{Given, Words};
 use libc::STDERR_FILENO;
-use log_files::{Given, Loaded, WORDS, Words};
-use printing::front;
-use replays::Ending;
-
-// The place of the word that says how many events a portion has, and that number where the word is missing: all that a log has room for.
-const PORTION: usize = log_files::BEHIND;
-
-const ALL: u64 = log_layout::ROOM as u64;
+use play::FILE;
 
 fn print_usage() {
     io::write_all(
@@ -24,35 +20,31 @@ and the events are replayed in portions of PORTION, at least 1 (1024 if it is no
     );
 }
 
-// Opens a record, and replays the log that the file holds.
-fn replay_file(given: Given, portion: usize) {
-    let opened = given.open();
-    let record = opened.state;
-    let mut words = [0u64; WORDS];
-    match log_files::load(b"replay", given, &mut words) {
-        Loaded::Words(count) => play::replay_log(front(&words, count), record, portion),
-        Loaded::Refused(why) => play::refuse(Ending::Refused(why), record),
-        Loaded::Unreadable => print_usage(),
-    }
+// Says what is wrong with the words that the program was given, and how it is used.
+fn complain(what: &[u8]) {
+    output::tell(what);
+    print_usage();
 }
 
-fn replay_in_portions(given: Given) {
-    let portion = console::number_or(PORTION, ALL);
-    if portion == 0 {
-        console::tell(b"replay", b"PORTION is at least 1");
-        print_usage();
-        return;
+// Reads the file that the first word names, and replays it.
+fn replay_file(given: Given) {
+    let mut path = io::buffer();
+    let length = os::arg(1, &mut path);
+    let mut bytes = [0u8; FILE + 1];
+    match console::read_file(text::front(&path, length), &mut bytes) {
+        Contents::Bytes(count) => play::play(text::front(&bytes, count), given),
+        Contents::Unreadable => {
+            os::fail(text::front(&path, length));
+            complain(b"FILE cannot be read");
+        }
     }
-    replay_file(given, portion as usize);
 }
 
 fn main() {
-    match log_files::read_words(
-        b"replay",
-        b"it takes a file and up to five numbers",
-        PORTION + 1,
-    ) {
-        Words::Given(given) => replay_in_portions(given),
-        Words::Wrong => print_usage(),
+    match given::read() {
+        Words::Given(given) => replay_file(given),
+        Words::Count => complain(b"it takes a file and up to five numbers"),
+        Words::Number => complain(b"a word after FILE is no number from 0 to 18446744073709551615"),
+        Words::Portion => complain(b"PORTION is at least 1"),
     }
 }

@@ -1,13 +1,22 @@
-// What the program writes: lines of events and the last two lines, by way of a buffer of which the first `written` bytes wait.
+// What the program writes: lines of events, the last two lines, by way of a buffer of which the first `written` bytes wait; and lines on
+// standard error.
 use console::flush_before;
 use event_lines::{put_ended, put_event};
 use input_events::event_at;
+use libc::STDERR_FILENO;
 use printing::put_record;
 use record::Record;
 use replays::Ending;
 
 // More bytes than the longest line has.
 const LINE: usize = 500;
+
+// A line on standard error.
+pub(crate) fn tell(what: &[u8]) {
+    io::write_all(STDERR_FILENO, b"replay: ");
+    io::write_all(STDERR_FILENO, what);
+    io::write_all(STDERR_FILENO, b"\n");
+}
 
 // Writes out what waits where this is due, and where there may be no room for a line more.
 fn write_on(buffer: &[u8], written: usize, due: bool) -> usize {
