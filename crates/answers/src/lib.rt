@@ -1,10 +1,12 @@
 // What calls answer: the answers with the numbers that documents 01 and 02 give them, and their classes: which are refusals, and which
 // of an ask or a report are written to the log.
+#![tactic(auto)]
+
 ghost use Rattle.std.specs.Prelude.{◌≡◌};
 ghost use Rattle.answers.specs.Classes.{refusal_number, refused, refusal_written, step_written};
 ghost use Rattle.answers.specs.Answers.{says};
 
-#[derive(Drop)]
+#[derive(Clone, Copy)]
 pub enum Refusal {
     Pending,
     Idle,
@@ -24,7 +26,7 @@ pub enum Refusal {
 }
 
 // Lengths and counts as they were, which a performed call gives back.
-#[derive(Drop)]
+#[derive(Clone, Copy)]
 pub enum Was {
     Nothing,
     One(usize),
@@ -32,7 +34,7 @@ pub enum Was {
 }
 
 // `item` of a ticket is the phase, or the action's number.
-#[derive(Drop)]
+#[derive(Clone, Copy)]
 pub enum Answer {
     Done(Was),
     Refused(Refusal),

@@ -1,5 +1,7 @@
 // Lent areas of bytes and words: their size, copying words to the front of one, and exchanging two of bytes. Each public
 // function is total: what does not fit is left alone.
+#![tactic(auto)]
+
 ghost use Rattle.std.specs.Prelude.{◌≡◌, ◌∷◌, [], ◌++◌, ◌+◌, ◌≤◌, eqb, length, take, drop};
 ghost use Rattle.std.proofs.Math.Seq.{paste};
 ghost use Rattle.areas.specs.Areas.{area_size, copied, exchanged};

@@ -1,5 +1,7 @@
 // The program `audit`: it reads an input log from a file, asks the plain engine about the first 0, 1, 2 .. events of it, and writes the
 // answers to each, and how the audit ended. What it writes is fixed by docs/AUDIT.md.
+#![tactic(auto)]
+
 mod beginnings;
 
 use beginnings::{audit_all, put_end};

@@ -1,6 +1,8 @@
 // What an audit writes: the plain engine's five answers after the first events of an input log, as a line. Nothing here reads or writes a
 // file: a line is put into a buffer of which the first `written` bytes are in use, and the function that puts one answers how many are in
 // use then. No function asks anything of its caller: what has no room is left out.
+#![tactic(auto)]
+
 ghost use Rattle.std.specs.Prelude.{◌≡◌};
 ghost use Rattle.log_layout.specs.Log.{count};
 ghost use Rattle.plain.specs.Looking.{asked};
@@ -13,7 +15,7 @@ use record::Opening;
 use replays::Ending;
 
 // The answers to the five questions, in their order.
-#[derive(Drop)]
+#[derive(Clone, Copy)]
 pub struct Answers {
     pub phase: u64,
     pub commit: u64,
@@ -23,7 +25,7 @@ pub struct Answers {
 }
 
 // What an audit finds of the first events: the answers, or that it ends here, and how.
-#[derive(Drop)]
+#[derive(Clone, Copy)]
 pub enum Audited {
     Found(Answers),
     Ended(Ending),

@@ -1,4 +1,6 @@
 // The batch: a lent table of actions, an identity and a payload each.
+#![tactic(auto)]
+
 ghost use Rattle.std.specs.Prelude.{◌≡◌, eqb, ◌%◌};
 ghost use Rattle.batch.specs.Batch.{table_words, pairs_in, stored};
 

@@ -1,4 +1,6 @@
 // The asks: they are lent nothing, and each is its step.
+#![tactic(auto)]
+
 ghost use Rattle.std.specs.Prelude.{◌≡◌};
 ghost use Rattle.record.specs.Answers.{tells};
 ghost use Rattle.calls.specs.Calls.Work.{structure, update, rollback};

@@ -1,5 +1,7 @@
 // Ending a transaction by a commit, and refreshing what is accepted. Areas are exchanged whole, so that what was accepted is handed
 // back.
+#![tactic(auto)]
+
 ghost use Rattle.std.specs.Prelude.{◌≡◌, ◌∷◌, []};
 ghost use Rattle.record.specs.Answers.{tells};
 ghost use Rattle.record.specs.Leaves.{leaves};

@@ -1,4 +1,6 @@
 // Ending a transaction by a recovery. Areas are exchanged or copied whole, so that what was accepted is handed back.
+#![tactic(auto)]
+
 ghost use Rattle.std.specs.Prelude.{◌≡◌, ◌∷◌, []};
 ghost use Rattle.record.specs.Answers.{tells};
 ghost use Rattle.record.specs.Leaves.{leaves};

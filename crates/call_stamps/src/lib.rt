@@ -1,4 +1,6 @@
 // A stamp, and checking one: they are lent nothing, and each is its step.
+#![tactic(auto)]
+
 ghost use Rattle.std.specs.Prelude.{◌≡◌};
 ghost use Rattle.record.specs.Answers.{told};
 ghost use Rattle.step_stamps.specs.Stamping.{says_stamping, says_checked};

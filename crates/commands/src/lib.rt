@@ -1,4 +1,6 @@
 // The commands of a script, with what each is given, and which of them a key and its numbers make. Nothing here reads a line.
+#![tactic(auto)]
+
 mod making;
 
 use holdings::Area;
@@ -8,7 +10,7 @@ use seeds::Seeded;
 use step_stamps::SaveStamp;
 use tail_table::{File, Tail};
 
-#[derive(Drop)]
+#[derive(Clone, Copy)]
 pub enum Command {
     // an empty line or a comment
     Nothing,
@@ -32,14 +34,14 @@ pub enum Command {
 }
 
 // The candidate payload and the recovery payload.
-#[derive(Drop)]
+#[derive(Clone, Copy)]
 pub struct Payloads {
     pub candidate: Seeded,
     pub recovery: Seeded,
 }
 
 // Calls that bring both payloads; the pairs of a begin are its actions.
-#[derive(Drop)]
+#[derive(Clone, Copy)]
 pub enum Bringing {
     Begin { structural: bool, pairs: Seeded },
     Edit,
@@ -47,7 +49,7 @@ pub enum Bringing {
 }
 
 // Asking for tickets, and the reports that bring no payload of bytes: of an update, or of undoing one.
-#[derive(Drop)]
+#[derive(Clone, Copy)]
 pub enum Working {
     Ask(Asking),
     Report {
@@ -58,7 +60,7 @@ pub enum Working {
 }
 
 // What a ticket is asked for.
-#[derive(Drop)]
+#[derive(Clone, Copy)]
 pub enum Asking {
     Structure,
     Update,
@@ -66,7 +68,7 @@ pub enum Asking {
 }
 
 // Calls that exchange areas. A recovery and a refresh have the length of the snapshot that they take from the exchange area.
-#[derive(Drop)]
+#[derive(Clone, Copy)]
 pub enum Ending {
     Commit,
     RecoverRetained,
@@ -74,14 +76,14 @@ pub enum Ending {
 }
 
 // A stamp for a domain, and whether one passes.
-#[derive(Drop)]
+#[derive(Clone, Copy)]
 pub enum Planning {
     Stamp(u64),
     Check { domain: u64, stamp: SaveStamp },
 }
 
 // Calls of the status part.
-#[derive(Drop)]
+#[derive(Clone, Copy)]
 pub enum Marking {
     Link { id: u64, domain: bool },
     Initialize(u64),
@@ -90,7 +92,7 @@ pub enum Marking {
 
 // Calls of the tail table. Finding and moving are given a stamp and the domain that it is checked against, and are made on flat words or
 // on structs.
-#[derive(Drop)]
+#[derive(Clone, Copy)]
 pub enum Tailing {
     Add(Tail),
     Remove(File),

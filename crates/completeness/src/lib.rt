@@ -1,4 +1,6 @@
 // When a record is complete.
+#![tactic(auto)]
+
 ghost use Rattle.std.specs.Prelude.{◌≡◌};
 ghost use Rattle.completeness.specs.Complete.{complete};
 

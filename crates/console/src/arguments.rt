@@ -3,7 +3,7 @@ use numbers::Read;
 use text::front;
 
 // An argument that is to be a number: it is none, or none was given.
-#[derive(Drop)]
+#[derive(Clone, Copy)]
 pub enum Argument {
     Number(u64),
     Wrong,

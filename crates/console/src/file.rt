@@ -2,14 +2,14 @@
 use text::{front, put_text};
 
 // What a file has: so many bytes, or as many as there was room for; or that it cannot be read.
-#[derive(Drop)]
+#[derive(Clone, Copy)]
 pub enum Contents {
     Bytes(usize),
     Unreadable,
 }
 
 // What one more read came to: so many bytes in all, the end, or a failure.
-#[derive(Drop)]
+#[derive(Clone, Copy)]
 enum More {
     Bytes(usize),
     End,

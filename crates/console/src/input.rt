@@ -3,7 +3,7 @@ use text::{front, put_byte};
 
 // Where the reading stands: the place in the chunk, how many bytes of the chunk were read, how many bytes the present line has, and
 // whether the input is at its end.
-#[derive(Drop)]
+#[derive(Clone, Copy)]
 pub struct Place {
     pub at: usize,
     pub filled: usize,
@@ -12,7 +12,7 @@ pub struct Place {
 }
 
 // A part of a line, as it was taken from the chunk.
-#[derive(Drop)]
+#[derive(Clone, Copy)]
 struct Taken {
     at: usize,
     length: usize,

@@ -1,5 +1,7 @@
 // Standard input line by line, standard output by way of a buffer, files and arguments, for programs. A failure to read or write
 // standard input or output is told on standard error; an input that fails is at its end. No contract can speak of what is read or written.
+#![tactic(auto)]
+
 mod arguments;
 mod file;
 mod input;

@@ -1,4 +1,6 @@
 // Copying lent bytes by blocks: a payload to the front of an area. What does not fit is left alone.
+#![tactic(auto)]
+
 ghost use Rattle.std.specs.Prelude.{◌≡◌, ◌+◌, ◌≤◌, length, drop};
 ghost use Rattle.std.proofs.Math.Seq.{paste};
 ghost use Rattle.areas.specs.Areas.{copied};

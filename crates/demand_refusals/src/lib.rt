@@ -2,3 +2,5 @@
 // its test, and the same through the log and for the status part; `proofs` shows that every answer is given exactly by its row, that a
 // refusal leaves all as it was, that the retired number is never given, and that every promise determines what its call answers and
 // leaves.
+#![tactic(auto)]
+

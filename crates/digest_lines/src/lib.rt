@@ -1,6 +1,8 @@
 // The lines that tell of all that is held by its digests. Nothing here reads or writes a file: the lines are put into a buffer of which
 // the first `written` bytes are in use, and the function that puts them answers how many are in use then. It asks nothing of its caller:
 // what has no room is left out.
+#![tactic(auto)]
+
 ghost use Rattle.std.specs.Prelude.{◌≡◌};
 ghost use Rattle.text.specs.Writing.{page, put_all};
 ghost use Rattle.digest_lines.specs.DigestTexts.{digests_text};
@@ -8,7 +10,7 @@ ghost use Rattle.digest_lines.specs.DigestTexts.{digests_text};
 use lines::put_line;
 
 // The digests of all that is held, and the count of used tail records.
-#[derive(Drop)]
+#[derive(Clone, Copy)]
 pub struct Digests {
     pub accepted: u64,
     pub candidate: u64,

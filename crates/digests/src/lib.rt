@@ -1,4 +1,6 @@
 // Digests of bytes and of words. No function asks anything of its caller.
+#![tactic(auto)]
+
 ghost use Rattle.std.specs.Prelude.{◌≡◌, ◌%◌};
 ghost use Rattle.digests.specs.Digesting.{modulus, digest_of};
 

@@ -20,7 +20,7 @@ const MARKS: usize = 64;
 const TAILS: usize = MOST_RECORDS * WIDTH;
 
 // How many elements of each area are lent.
-#[derive(Drop)]
+#[derive(Clone, Copy)]
 pub(crate) struct Lent {
     pub(crate) accepted: usize,
     pub(crate) candidate: usize,

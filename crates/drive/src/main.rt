@@ -1,5 +1,7 @@
 // The driver: plays a script of calls over the proved libraries. It reads the script from standard input, a command to a line,
 // makes each call in turn on what it holds, and writes the answers to standard output.
+#![tactic(auto)]
+
 mod bring;
 mod end;
 mod held;

@@ -2,6 +2,8 @@
 // tail table, as `tails` has it, and replaying an input log, as `replays` has it. A slice crosses as the address of its first element and
 // its length; numbers cross as they are, so that a tail call is given the revision and the count of replacements of the settings, and the
 // stamp's: the settings are idle, in the domain 0.
+#![tactic(auto)]
+
 ghost use Rattle.std.specs.Prelude.{◌≡◌, ◌∷◌, []};
 ghost use Rattle.areas.specs.Areas.{copied, exchanged};
 ghost use Rattle.tail_answers.specs.TailAnswers.{says_verdict};

@@ -1,5 +1,7 @@
 // Areas that change places, when a call is not refused: each function is handed what the call's step told, moves areas whole unless that
 // is a refusal, and hands it back.
+#![tactic(auto)]
+
 ghost use Rattle.std.specs.Prelude.{◌≡◌, ◌∷◌, []};
 ghost use Rattle.areas.specs.Areas.{copied, exchanged};
 ghost use Rattle.record.specs.Answers.{tells};

@@ -1,5 +1,7 @@
 // The bytes of a file as u64 words, lowest byte first. Nothing here reads a file, and no function that others call asks anything of its
 // caller: words that have no place among those that are lent are left out, and so are bytes that make no whole word.
+#![tactic(auto)]
+
 ghost use Rattle.std.specs.Prelude.{◌≡◌, ◌+◌, ◌≤◌, ◌<◌, length, set};
 ghost use Rattle.file_words.specs.Words.{word_bytes, value_from, read};
 

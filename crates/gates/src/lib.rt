@@ -1,4 +1,6 @@
 // Refusals in a row: those that every call begins with, and payloads that are too long.
+#![tactic(auto)]
+
 ghost use Rattle.std.specs.Prelude.{◌≡◌, []};
 ghost use Rattle.gates.specs.Gates.{gate_of, barred, through, long_payloads, long_snapshot};
 
@@ -6,7 +8,7 @@ use answers::Refusal;
 use record::{Findings, Record};
 
 // Whether a call goes on, or is refused.
-#[derive(Drop)]
+#[derive(Clone, Copy)]
 pub enum Gate {
     Open,
     Shut(Refusal),

@@ -1,5 +1,7 @@
 // What whoever runs a script holds, its areas with their sizes: more than any call asks for, so that a script can lend too much. No
 // function asks anything of its caller.
+#![tactic(auto)]
+
 ghost use Rattle.std.specs.Prelude.{◌≡◌};
 ghost use Rattle.holdings.specs.Held.{area_at, held_of, most_of};
 
@@ -17,7 +19,7 @@ pub const HELD_MARKS: usize = 300;
 
 pub const HELD_TAILS: usize = 800;
 
-#[derive(Drop)]
+#[derive(Clone, Copy)]
 pub enum Area {
     Accepted,
     Candidate,

@@ -1,4 +1,6 @@
 // Giving a ticket, which every ask does that has work: a step on the record alone, behind the refusals of that ask.
+#![tactic(auto)]
+
 ghost use Rattle.std.specs.Prelude.{◌≡◌};
 ghost use Rattle.record.specs.Answers.{tells};
 ghost use Rattle.issuing.specs.Issuing.{issued};

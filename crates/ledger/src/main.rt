@@ -1,5 +1,7 @@
 // The log's example, played through the recorder: room 3, opened at 0 and 0, update-only begin without actions, commit. It prints the
 // sixteen words of the log.
+#![tactic(auto)]
+
 use libc::STDOUT_FILENO;
 use record::{Opening, Record};
 use recorder::{EVENT, HEAD};

@@ -1,5 +1,7 @@
 // A line: a word and numbers in a row, put into a buffer of which the first `written` bytes are in use. Every function answers how many
 // are in use then; what has no room is left out. Nothing here writes a file, and no function asks anything of its caller.
+#![tactic(auto)]
+
 ghost use Rattle.std.specs.Prelude.{◌≡◌};
 ghost use Rattle.text.specs.Writing.{page, put_all};
 ghost use Rattle.lines.specs.Lines.{space_if, numbers_text, line_text};

@@ -7,14 +7,14 @@ use console::{number_or, tell};
 use record::{Opening, Stepped};
 
 // An opening, and the length of its accepted payload.
-#[derive(Drop)]
+#[derive(Clone, Copy)]
 pub struct Given {
     pub opening: Opening,
     pub length: u64,
 }
 
 // What the words come to; what is wrong with them was told.
-#[derive(Drop)]
+#[derive(Clone, Copy)]
 pub enum Words {
     Given(Given),
     Wrong,

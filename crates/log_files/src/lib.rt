@@ -1,5 +1,7 @@
 // What programs over an input log share: the words that they are given, and the file that the first of these names. What is wrong with
 // either is told on standard error; how a program is used, it says itself. No contract can speak of what is read or told.
+#![tactic(auto)]
+
 mod file;
 mod given;
 

@@ -1,4 +1,6 @@
 // What a call of the status part answers as a row of numbers. No function asks anything of its caller.
+#![tactic(auto)]
+
 ghost use Rattle.std.specs.Prelude.{◌≡◌};
 ghost use Rattle.status.specs.Status.{says_marked};
 ghost use Rattle.replies.specs.Replies.{reply_of};

@@ -2,6 +2,8 @@
 // length, C a count of words, S a seed, O an outcome, F a flag, K a kind of ticket, U a field of 8 bits, D one of 32. B stands for
 // the letter of an area, and is read as its place among them. Every other byte stands for itself; a newline ends the template. No
 // function asks anything of its caller: numbers past the most that a template has are left out.
+#![tactic(auto)]
+
 ghost use Rattle.std.specs.Prelude.{◌≡◌};
 ghost use Rattle.numbers.specs.Reading.{number_at};
 ghost use Rattle.matching.specs.Templates.{most_at, letters, place_in, letter_of, taken_of, same_as, taken_at};
@@ -28,14 +30,14 @@ const KIND: u64 = Live::ROLLBACK as u64;
 const AREAS: u64 = 9;
 
 // Whether a line fits a template, and the numbers that were read of it, with zeros after them.
-#[derive(Drop)]
+#[derive(Clone, Copy)]
 pub struct Fitted {
     pub fits: bool,
     pub numbers: [u64; NUMBERS],
 }
 
 // What the line has for one byte of the template, and the place after it.
-#[derive(Drop)]
+#[derive(Clone, Copy)]
 enum Taken {
     Number { value: u64, next: usize },
     Same { next: usize },

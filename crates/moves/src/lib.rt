@@ -1,5 +1,7 @@
 // What a call that is not refused puts into what it is lent: a payload, pairs, or the payload of one action. Each function is handed what
 // the call's step told, writes bytes or words unless that is a refusal, and hands it back.
+#![tactic(auto)]
+
 ghost use Rattle.std.specs.Prelude.{◌≡◌, ◌∷◌, []};
 ghost use Rattle.areas.specs.Areas.{copied};
 ghost use Rattle.batch.specs.Batch.{pairs_in, stored};

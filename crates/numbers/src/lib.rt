@@ -1,17 +1,19 @@
 // Decimal numbers that are read, in lent bytes: one or more digits, leading zeros allowed, of which no beginning is past the range.
 // Nothing here reads a file, and no function asks anything of its caller.
+#![tactic(auto)]
+
 ghost use Rattle.std.specs.Prelude.{◌≡◌};
 ghost use Rattle.numbers.specs.Reading.{is_digit, grown, ended, number_at};
 
 // The number that stands at a place, with the place after it; or that none does that is in its range.
-#[derive(Drop)]
+#[derive(Clone, Copy)]
 pub enum Read {
     Number { value: u64, next: usize },
     Wrong,
 }
 
 // A number with one digit more, or that it is past its range.
-#[derive(Drop)]
+#[derive(Clone, Copy)]
 enum Grown {
     To(u64),
     Past,

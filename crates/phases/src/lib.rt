@@ -1,15 +1,17 @@
 // The phases of a transaction: each has a number, fixed with the type, and some have a successor.
+#![tactic(auto)]
+
 ghost use Rattle.std.specs.Prelude.{◌≡◌};
 ghost use Rattle.phases.specs.Phases.{from_number, has_successor, successor, boundary};
 
 // A phase by its number. A record that comes from outside may hold any number; `from_number` tells the phases.
-#[derive(Drop)]
+#[derive(Clone, Copy)]
 pub struct Phase {
     pub number: u8,
 }
 
 // A phase, or that there is none.
-#[derive(Drop)]
+#[derive(Clone, Copy)]
 pub enum Next {
     To(Phase),
     Nowhere,

@@ -1,6 +1,8 @@
 // The plain engine: five questions of an opening and the first events of an input log, each answered out of the whole list, anew. It keeps
 // nothing between questions, has no record, and calls no step: it goes through the list from the first event on, finds out by itself which
 // calls are taken, and counts them. What it finds is the same that the record says (the crate `plain_laws`).
+#![tactic(auto)]
+
 mod questions;
 mod taking;
 
@@ -14,7 +16,7 @@ use input_events::event_at;
 use record::Opening;
 
 // What can be asked. Yes is 1 and no is 0; the due asking is 1 structure, 2 update, 3 rollback, and 0 where none is due.
-#[derive(Drop)]
+#[derive(Clone, Copy)]
 pub enum Question {
     Phase,
     CommitAllowed,
@@ -24,7 +26,7 @@ pub enum Question {
 }
 
 // What is found: the answer, or that the event of this number is bad, or that the log is refused.
-#[derive(Drop)]
+#[derive(Clone, Copy)]
 pub enum Finding {
     Answer(u64),
     Bad(usize),
@@ -36,7 +38,7 @@ pub enum Finding {
 // and how many updates it has; whether its updates are closed, an asking for one being answered that there is none; whether a rollback was granted, how many
 // updates were started; and the Done reports that were taken, until a rollback was granted and since. It is public for the laws of
 // `plain_laws` to name, and no public function takes or gives one.
-#[derive(Drop)]
+#[derive(Clone, Copy)]
 pub struct Taken {
     pub revision: u64,
     pub replacements: u64,

@@ -1,4 +1,6 @@
 // The record of a transaction: what is kept between calls, by value; and what calls are given beside it, and answer.
+#![tactic(auto)]
+
 ghost use Rattle.std.specs.Prelude.{◌≡◌};
 ghost use Rattle.record.specs.Fields.{with_ticket, adopting};
 ghost use Rattle.answers.specs.Classes.{refused};
@@ -12,7 +14,7 @@ use tickets::Live;
 // The largest u64: no revision is committed over it, no serial is given past it, and no settings are replaced past it.
 pub const MAX: u64 = 18446744073709551615;
 
-#[derive(Drop)]
+#[derive(Clone, Copy)]
 pub struct Record {
     pub revision: u64,
     pub serial: u64,
@@ -32,14 +34,14 @@ pub struct Record {
 }
 
 // What was found of all that a call is lent together: that every size is right, and that what is read in it is sound.
-#[derive(Drop)]
+#[derive(Clone, Copy)]
 pub struct Findings {
     pub sized: bool,
     pub sound: bool,
 }
 
 // What an opening is given besides its payload.
-#[derive(Drop)]
+#[derive(Clone, Copy)]
 pub struct Opening {
     pub revision: u64,
     pub serial: u64,
@@ -47,7 +49,7 @@ pub struct Opening {
 }
 
 // What a begin is given besides its flag: the lengths of both payloads, and the number of actions.
-#[derive(Drop)]
+#[derive(Clone, Copy)]
 pub struct Beginning {
     pub candidate: usize,
     pub recovery: usize,
@@ -55,7 +57,7 @@ pub struct Beginning {
 }
 
 // What became of the work that a ticket was given for.
-#[derive(Drop)]
+#[derive(Clone, Copy)]
 pub enum Outcome {
     Waiting,
     Failed(u64),
@@ -63,14 +65,14 @@ pub enum Outcome {
 }
 
 // What a report is given besides what it stores: its ticket, and what became of the work.
-#[derive(Drop)]
+#[derive(Clone, Copy)]
 pub struct Reporting {
     pub ticket: u64,
     pub outcome: Outcome,
 }
 
 // What a call answers, and the record that it leaves.
-#[derive(Drop)]
+#[derive(Clone, Copy)]
 pub struct Stepped {
     pub answer: Answer,
     pub state: Record,

@@ -3,7 +3,7 @@ use console::Argument;
 use record::Opening;
 
 // The opening, the length of its accepted payload, and how many events a portion has.
-#[derive(Drop)]
+#[derive(Clone, Copy)]
 pub(crate) struct Given {
     pub opening: Opening,
     pub length: u64,
@@ -11,7 +11,7 @@ pub(crate) struct Given {
 }
 
 // What the words come to, or what is wrong with them.
-#[derive(Drop)]
+#[derive(Clone, Copy)]
 pub(crate) enum Words {
     Given(Given),
     Count,

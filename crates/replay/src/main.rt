@@ -1,5 +1,7 @@
 // The program `replay`: it reads an input log from a file, opens a record, replays the log's events in portions, and writes each event
 // with its answer, how the replay ended, and the record. What it writes is fixed by docs/REPLAY.md.
+#![tactic(auto)]
+
 mod given;
 mod output;
 mod play;

@@ -1,5 +1,7 @@
 // What a call of the transaction or of the recorder answers as a row of numbers: document 01's number of the answer, and the values that
 // follow it. What a stamp, its check and a call of the status part answer stand in `stamp_replies` and `mark_replies`.
+#![tactic(auto)]
+
 ghost use Rattle.std.specs.Prelude.{◌≡◌, []};
 ghost use Rattle.answers.specs.Answers.{says};
 ghost use Rattle.answers.specs.declared.Answer.TheVariants.{Done, Refused};
@@ -8,7 +10,7 @@ ghost use Rattle.replies.specs.Replies.{row_of, reply, reply_of};
 use answers::{Answer, Refusal, Was};
 
 // The number of an answer and its values, `count` numbers in all; those after them are zeros. No answer has more than three values.
-#[derive(Drop)]
+#[derive(Clone, Copy)]
 pub struct Reply {
     pub number: u64,
     pub count: usize,

@@ -1,5 +1,7 @@
 // What the three reports share, as steps on the record alone: the refusals that each begins with, and a report that is taken, for
 // which the caller has spent the ticket and stored the payloads.
+#![tactic(auto)]
+
 ghost use Rattle.std.specs.Prelude.{◌≡◌, []};
 ghost use Rattle.record.specs.Answers.{tells};
 ghost use Rattle.record.specs.Given.{effect_of};

@@ -1,5 +1,7 @@
 // A row of numbers read back into the record whose numbers it has. Nothing is cut: a row that has a number past the range of its field is
 // no record. No function asks anything of its caller.
+#![tactic(auto)]
+
 ghost use Rattle.std.specs.Prelude.{◌≡◌};
 ghost use Rattle.row_reading.specs.RowReading.{in_ranges, live_of, record_of};
 
@@ -14,7 +16,7 @@ const NONE: u64 = Live::NONE as u64;
 const ROLLBACK: u64 = Live::ROLLBACK as u64;
 
 // The record that a row is, or that a number of it is past the range of its field.
-#[derive(Drop)]
+#[derive(Clone, Copy)]
 pub enum Row {
     Fits(Record),
     Misfit,

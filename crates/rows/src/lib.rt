@@ -1,4 +1,6 @@
 // A record as a row of numbers, which `row_reading` reads back. No function asks anything of its caller.
+#![tactic(auto)]
+
 ghost use Rattle.std.specs.Prelude.{◌≡◌};
 ghost use Rattle.rows.specs.Rows.{row_of};
 

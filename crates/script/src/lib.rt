@@ -1,5 +1,7 @@
 // A line of a script as a typed command: the first template that it fits says which by its key, the byte before it. Nothing here reads
 // or writes a file: whoever runs scripts reads lines and holds what the commands speak of.
+#![tactic(auto)]
+
 ghost use Rattle.std.specs.Prelude.{◌≡◌};
 ghost use Rattle.script.specs.Reading.{read_as};
 

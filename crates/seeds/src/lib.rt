@@ -1,9 +1,11 @@
 // The payloads and the words that a script names by a count and a seed. No function asks anything of its caller: what has no room is
 // left out.
+#![tactic(auto)]
+
 ghost use Rattle.std.specs.Prelude.{◌≡◌, ◌+◌, ◌%◌, ◌<◌, take};
 ghost use Rattle.seeds.specs.Seeds.{payload_over, words_over};
 
-#[derive(Drop)]
+#[derive(Clone, Copy)]
 pub struct Seeded {
     pub count: usize,
     pub seed: u64,

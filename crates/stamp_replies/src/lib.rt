@@ -1,4 +1,6 @@
 // What a stamp that was asked for, and the check of one, answer as a row of numbers. No function asks anything of its caller.
+#![tactic(auto)]
+
 ghost use Rattle.std.specs.Prelude.{◌≡◌};
 ghost use Rattle.step_stamps.specs.Stamping.{says_stamping, says_checked};
 ghost use Rattle.replies.specs.Replies.{reply_of};

@@ -1,4 +1,6 @@
 // The status part: link, initialize and cancel, over lent group bytes and status bytes. The index is the id.
+#![tactic(auto)]
+
 ghost use Rattle.std.specs.Prelude.{◌≡◌};
 ghost use Rattle.status_bits.specs.declared.StatusCall.TheVariants.{Link, Initialize, Cancel};
 ghost use Rattle.status.specs.Status.{says_marked, leaves_marks, marks_of};
@@ -9,7 +11,7 @@ use status_bits::{GROUP_MOST, MARK_LINKED, MARK_MOST, StatusCall, allowed, next}
 // The most ids that one table holds.
 pub const MOST_IDS: usize = 256;
 
-#[derive(Drop)]
+#[derive(Clone, Copy)]
 pub enum Marked {
     Done,
     Refused(Refusal),

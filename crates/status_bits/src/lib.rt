@@ -1,4 +1,6 @@
 // The bits of an id's group byte and status byte: whether a status call is allowed by them, and the status byte that it leaves.
+#![tactic(auto)]
+
 ghost use Rattle.std.specs.Prelude.{◌+◌, ◌≤◌, ◌≡◌, false};
 ghost use Rattle.status_bits.specs.Bits.{has, with, allowed, next};
 
@@ -23,7 +25,7 @@ pub const MARK_FINISHED: u8 = 8;
 pub const MARK_MOST: u8 = MARK_LINKED + MARK_CANCELLED + MARK_INITIALIZED + MARK_FINISHED;
 
 // The three calls, each with what it is given besides the bytes and the id: linking, whether a domain is present.
-#[derive(Drop)]
+#[derive(Clone, Copy)]
 pub enum StatusCall {
     Link(bool),
     Initialize,

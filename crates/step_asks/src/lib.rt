@@ -1,5 +1,7 @@
 // The asks for structure work and for an update, as steps on the record alone: whether work is due, and a ticket for it. Asking counts as
 // starting.
+#![tactic(auto)]
+
 ghost use Rattle.std.specs.Prelude.{◌≡◌};
 ghost use Rattle.record.specs.Answers.{tells};
 ghost use Rattle.step_asks.specs.Asks.{ask_structure_step, ask_update_step};

@@ -1,4 +1,6 @@
 // Beginning a transaction, and editing what is staged, as steps on the record alone. Payloads are known by their lengths.
+#![tactic(auto)]
+
 ghost use Rattle.std.specs.Prelude.{◌≡◌, ◌≤◌};
 ghost use Rattle.batch.specs.Batch.{limit};
 ghost use Rattle.record.specs.Answers.{tells};

@@ -1,4 +1,6 @@
 // Ending a transaction by a commit; and refresh, which replaces the accepted payload while nothing is staged.
+#![tactic(auto)]
+
 ghost use Rattle.std.specs.Prelude.{◌≡◌};
 ghost use Rattle.record.specs.Answers.{tells};
 ghost use Rattle.step_ends.specs.Ending.{commit_bars, refresh_bars, commit_step, refresh_step};

@@ -1,4 +1,6 @@
 // Opening, as a step on the record alone: the first record of a chain. Its payload is known by its length.
+#![tactic(auto)]
+
 ghost use Rattle.std.specs.Prelude.{◌≡◌};
 ghost use Rattle.record.specs.Answers.{tells};
 ghost use Rattle.step_opens.specs.Opening.{unopened, open_step};

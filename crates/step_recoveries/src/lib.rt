@@ -1,4 +1,6 @@
 // Ending a transaction by a recovery: from a snapshot, or from the retained recovery payload.
+#![tactic(auto)]
+
 ghost use Rattle.std.specs.Prelude.{[], ◌≡◌, ◌<◌};
 ghost use Rattle.record.specs.Fields.{top};
 ghost use Rattle.record.specs.Answers.{tells};

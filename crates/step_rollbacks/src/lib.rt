@@ -1,4 +1,6 @@
 // The ask for a rollback, as a step on the record alone: the way back is taken, and a ticket is given for what is left to undo.
+#![tactic(auto)]
+
 ghost use Rattle.std.specs.Prelude.{◌≡◌};
 ghost use Rattle.record.specs.Answers.{tells};
 ghost use Rattle.step_rollbacks.specs.Rollbacks.{ask_rollback_step, turned};

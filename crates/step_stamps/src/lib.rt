@@ -1,4 +1,6 @@
 // Stamps: a plan reviewed under some settings must not be saved over others.
+#![tactic(auto)]
+
 ghost use Rattle.std.specs.Prelude.{◌≡◌};
 ghost use Rattle.step_stamps.specs.Stamping.{says_stamping, says_checked, stamp_step, check_step};
 
@@ -6,7 +8,7 @@ use answers::Refusal;
 use record::Record;
 
 // A save plan's stamp: which domain it was reviewed in, at which revision, and after how many replacements of the settings.
-#[derive(Drop)]
+#[derive(Clone, Copy)]
 pub struct SaveStamp {
     pub domain: u64,
     pub revision: u64,
@@ -14,14 +16,14 @@ pub struct SaveStamp {
 }
 
 // A stamp, or why there is none.
-#[derive(Drop)]
+#[derive(Clone, Copy)]
 pub enum Stamping {
     Taken(SaveStamp),
     Refused(Refusal),
 }
 
 // Whether a stamp passes.
-#[derive(Drop)]
+#[derive(Clone, Copy)]
 pub enum Checked {
     Passes,
     Fails,

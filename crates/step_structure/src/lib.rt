@@ -1,5 +1,7 @@
 // The report of a phase's structure work, as a step on the record alone: what became of the work that a ticket was given for.
 // Payloads are known by their lengths. Unless refused, a report spends its ticket.
+#![tactic(auto)]
+
 ghost use Rattle.std.specs.Prelude.{◌≡◌, ◌≤◌};
 ghost use Rattle.record.specs.Answers.{tells};
 ghost use Rattle.step_structure.specs.Structure.{advanced, structure_done, report_structure_step};

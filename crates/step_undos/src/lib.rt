@@ -1,5 +1,7 @@
 // The report of an action's undoing, as a step on the record alone: what became of the work that a ticket was given for. Unless
 // refused, a report spends its ticket.
+#![tactic(auto)]
+
 ghost use Rattle.std.specs.Prelude.{◌≡◌, ◌<◌};
 ghost use Rattle.record.specs.Answers.{tells};
 ghost use Rattle.step_undos.specs.Undos.{least, leaving, rollback_done, report_rollback_step};

@@ -1,10 +1,12 @@
 // What the calls of the tail table answer, with the numbers that document 02 gives them, and refusals in a row.
+#![tactic(auto)]
+
 ghost use Rattle.std.specs.Prelude.{◌≡◌};
 ghost use Rattle.tail_answers.specs.TailAnswers.{tail_number, barred};
 
 use answers::Refusal;
 
-#[derive(Drop)]
+#[derive(Clone, Copy)]
 pub enum TailRefusal {
     BadArea,
     Damaged,
@@ -16,14 +18,14 @@ pub enum TailRefusal {
 }
 
 // What adding, removing and moving answer.
-#[derive(Drop)]
+#[derive(Clone, Copy)]
 pub enum Verdict {
     Done,
     Refused(TailRefusal),
 }
 
 // What finding answers: the saved offset of a file that may be the same, or that it is not.
-#[derive(Drop)]
+#[derive(Clone, Copy)]
 pub enum Finding {
     Same(u64),
     Shrunk,

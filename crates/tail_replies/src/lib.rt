@@ -1,4 +1,6 @@
 // What a call of the tail table answers as a row of numbers. No function asks anything of its caller.
+#![tactic(auto)]
+
 ghost use Rattle.std.specs.Prelude.{◌≡◌};
 ghost use Rattle.replies.specs.Replies.{row_of};
 ghost use Rattle.tail_answers.specs.TailAnswers.{says_verdict, says_finding};

@@ -1,5 +1,7 @@
 // The calls of `tail_structs` for whoever has a tail table's flat words: they are copied into a local row of structs, whose front is lent,
 // and after a move they are copied back. It is for the driver.
+#![tactic(auto)]
+
 ghost use Rattle.std.specs.Prelude.{◌≡◌, ◌≤◌, ◌/◌, ◌%◌, length, take};
 ghost use Rattle.tail_table.specs.Table.{tails_of, words_of};
 ghost use Rattle.tail_table.specs.TailCalls.{find_of, move_of, table_left};
@@ -8,7 +10,7 @@ use tail_answers::{Finding, TailRefusal, Verdict};
 use tail_table::{Claim, File, Room, Tail, WIDTH};
 
 // What a move answers, and the row after it.
-#[derive(Drop)]
+#[derive(Clone, Copy)]
 struct Moved {
     answer: Verdict,
     row: [Tail; 256],

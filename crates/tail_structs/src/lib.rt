@@ -1,5 +1,7 @@
 // The tail table as a lent slice of structs: finding and moving, which answer and leave what they do on the structs' flat words (`tails`).
 // What they decide is `tail_table`'s.
+#![tactic(auto)]
+
 ghost use Rattle.std.specs.Prelude.{◌≡◌};
 ghost use Rattle.tail_table.specs.Table.{words_of};
 ghost use Rattle.tail_table.specs.TailCalls.{find_of, move_of, table_left};
@@ -24,7 +26,7 @@ fn finish(n: usize, used: usize, s: Sweep, size: u64, claim: Claim) -> Finding
 }
 
 // What moving does: its answer, and the record at which it stores, which is past the end where it is refused.
-#[derive(Drop)]
+#[derive(Clone, Copy)]
 struct Decision {
     answer: Verdict,
     at: usize,

@@ -1,5 +1,7 @@
 // The tail table: its records, and what all calls on it do alike, whether it is lent as flat words or as structs: they look at each used
 // record once, and decide by what they saw. `tails` has the calls on flat words, `tail_structs` those on structs.
+#![tactic(auto)]
+
 ghost use Rattle.std.specs.Prelude.{◌≡◌, []};
 ghost use Rattle.tail_answers.specs.TailAnswers.{verdict};
 ghost use Rattle.tail_table.specs.Table.{file_of, same, before};
@@ -15,7 +17,7 @@ pub const WIDTH: usize = 3;
 pub const MOST_RECORDS: usize = 256;
 
 // A record: how far a file was read.
-#[derive(Drop)]
+#[derive(Clone, Copy)]
 pub struct Tail {
     pub device: u64,
     pub inode: u64,
@@ -23,14 +25,14 @@ pub struct Tail {
 }
 
 // The pair by which a file is known.
-#[derive(Drop)]
+#[derive(Clone, Copy)]
 pub struct File {
     pub device: u64,
     pub inode: u64,
 }
 
 // A stamp, with the record and the domain that it must still agree with.
-#[derive(Drop)]
+#[derive(Clone, Copy)]
 pub struct Claim {
     pub record: Record,
     pub domain: u64,
@@ -38,14 +40,14 @@ pub struct Claim {
 }
 
 // What is lent as a table: whether its size is one, and how many records it has room for.
-#[derive(Drop)]
+#[derive(Clone, Copy)]
 pub struct Room {
     pub sized: bool,
     pub records: usize,
 }
 
 // What the records so far have shown of the file that is looked for.
-#[derive(Drop)]
+#[derive(Clone, Copy)]
 pub struct Sweep {
     pub file: File,
     // how many there were, and the last one's file

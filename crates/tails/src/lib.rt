@@ -1,5 +1,7 @@
 // The tail table on flat words, lent by the caller, with the count of its used records in and out: is this file the one that was read
 // before, and from where does reading go on? A refusal changes nothing.
+#![tactic(auto)]
+
 ghost use Rattle.std.specs.Prelude.{◌≡◌, ◌∷◌, [], ◌++◌, ◌+◌, ◌*◌, ◌%◌, ◌<◌, ◌≤◌, length, take, get_or, set};
 ghost use Rattle.tail_table.specs.Table.{tails_of, words_of, file_of, used_of, entered, over_first, record_put, zeroes};
 ghost use Rattle.tail_table.specs.TailCalls.{table_left, find_of, add_of, remove_of, move_of};
@@ -9,7 +11,7 @@ use tail_answers::{Finding, Verdict};
 use tail_table::{Claim, File, Room, Sweep, Tail, WIDTH, add_by, find_by, move_by, remove_by};
 
 // What adding or removing answers, and the count of used records.
-#[derive(Drop)]
+#[derive(Clone, Copy)]
 pub struct Counted {
     pub answer: Verdict,
     pub used: usize,

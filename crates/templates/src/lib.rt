@@ -1,5 +1,7 @@
 // The first of several templates that a line fits. Each stands after its key, a byte that says what it is the template of, and ends with
 // a newline. No function asks anything of its caller.
+#![tactic(auto)]
+
 ghost use Rattle.std.specs.Prelude.{◌≡◌, ◌≤◌, drop};
 ghost use Rattle.templates.specs.Finding.{after_line, first_fitting};
 
@@ -7,7 +9,7 @@ pub use matching::NUMBERS;
 use matching::fits;
 
 // Whether a line fits a template; then the key of the first, and the numbers that were read of it, with zeros after them.
-#[derive(Drop)]
+#[derive(Clone, Copy)]
 pub struct Found {
     pub found: bool,
     pub key: u8,

@@ -1,5 +1,7 @@
 // Text that is written, in lent bytes: a buffer of which the first `written` bytes are in use. Every function that puts something answers
 // how many are in use then; what has no room is left out. Nothing here writes a file, and no function asks anything of its caller.
+#![tactic(auto)]
+
 ghost use Rattle.std.specs.Prelude.{◌≡◌, take};
 ghost use Rattle.text.specs.Writing.{page, put_byte, put_all, decimal_of};
 

@@ -1,9 +1,11 @@
 // The live ticket: the work that it is for, and its number, and whether they are the ones that are given.
+#![tactic(auto)]
+
 ghost use Rattle.std.specs.Prelude.{◌≡◌};
 ghost use Rattle.tickets.specs.Live.{work_of, number, is_live};
 
 // Which kind of ticket is live, with its number.
-#[derive(Drop)]
+#[derive(Clone, Copy)]
 pub enum Live {
     None,
     Structure(u64),

@@ -2,6 +2,8 @@
 // longer passes. The plan is stamped again at revision 8. The second action of a second reload fails: what was begun is undone and
 // the retained payload is recovered. The settings were replaced, so this stamp does not pass either; one that is taken now does.
 // What each line says is in tell.rt.
+#![tactic(auto)]
+
 mod tell;
 
 use answers::Answer;

@@ -13,7 +13,7 @@ fn tell(what: &[u8], number: u64) {
 }
 
 // How a reload is to end.
-#[derive(Drop)]
+#[derive(Clone, Copy)]
 pub(crate) enum End {
     Commit,
     Recovery,

@@ -3,6 +3,8 @@
 // bytes moved. The steps are questions that the transaction answers under its own name, as `would_commit`: what a call would
 // answer on what it is lent, asked by those who build above before anything moves. `begin_as` is either begin, by its flag. `AREA`
 // and `TABLE` are the sizes of what is lent, which `is_area`, `is_table` and `are_pairs` ask, and `ACTIONS` the most actions.
+#![tactic(auto)]
+
 pub use areas::{SIZE as AREA, is_sized as is_area};
 pub use batch::{LIMIT as ACTIONS, WORDS as TABLE, are_pairs, is_sized as is_table};
 pub use call_asks::{ask_rollback, ask_structure, ask_update};

@@ -1,4 +1,6 @@
 // When a record is whole.
+#![tactic(auto)]
+
 ghost use Rattle.std.specs.Prelude.{◌≡◌, ◌+◌, eqb};
 ghost use Rattle.wholeness.specs.Whole.{lengths_fit, counts_fit, staged_fits, forward_fits, back_fits, restoring_fits, live_fits, whole};
 

@@ -2,12 +2,8 @@
 use mathlib.Core.Path.{refl}
 use Rattle.choice.specs.Pick.{◌or◌}
 use Rattle.phases.specs.Phases.{boundary}
-use Rattle.phases.proofs.Phase.boundary.Statement.{statement}
-use Rattle.phases.proofs.Phase.boundary.Tie as tie
+use Rattle.phases.proofs.Phase.boundary.Goals as goal
 
-returns : tie.Need-returns
+pub returns : goal.returns
 unfolding boundary ◌or◌
 returns c = refl
-
-pub boundary-spec : {M : Type 1} → statement M
-boundary-spec = tie.close (tie.spec returns)

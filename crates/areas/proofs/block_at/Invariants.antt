@@ -1,0 +1,16 @@
+-- `areas::block_at` meets its contract: after j turns the first j bytes are read. Assumes nothing.
+use mathlib.Core.Path.{◌≡◌, refl}
+use Prim.Native.Nat.{◌-◌, ◌≤◌}
+use native.Mathlib.Omega.{arith}
+use lib.ListN.{length, drop}
+use borrow.Author.Rules.{rules}
+use Rattle.areas.proofs.Over.{Copying, copy_none, copy_full}
+use Rattle.areas.proofs.Blocks.{read_more}
+use Rattle.areas.specs.Blocks.{block_size}
+use Rattle.areas.proofs.block_at.Given as goal
+
+abbrev pub invariant-loop-j : goal.invariant-loop-j
+invariant-loop-j l = (l.j ≤ block_size) × (length l.initial.block ≡ block_size) × Copying l.initial.block (drop l.at l.src) l.block l.j
+
+abbrev pub decreases-loop-j : goal.decreases-loop-j
+decreases-loop-j l = block_size - l.j

@@ -1,0 +1,16 @@
+-- `areas::exchange_blocks` meets its contract: each block that is put is what was read of the other area. Assumes nothing.
+use borrow.Author.Rules.{rules}
+use Rattle.areas.specs.Blocks.{block_size}
+use Rattle.areas.proofs.Blocks.{put_read}
+use Rattle.areas.proofs.exchange_blocks.Goals as goal
+
+pub returns : goal.returns
+returns c =
+    let second = c in
+    let first = second in
+    let y = first in
+    let x = y in
+    let g = x.args in (
+      put_read g.a.now g.b.now g.at block_size y.block_at-y.ensures first.put_block.ensures,
+      put_read g.b.now g.a.now g.at block_size x.block_at-x.ensures second.put_block-2.ensures,
+    )

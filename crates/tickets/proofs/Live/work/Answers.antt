@@ -1,0 +1,3 @@
+-- `tickets::Live::work` meets its contract: a return for each kind of ticket. Assumes nothing.
+use borrow.Author.Rules.{rules}
+use Rattle.tickets.proofs.Live.work.Goals as goal
