@@ -1,0 +1,16 @@
+-- `digests::digest_words` meets its contract: from the words that are left the digest stays what it is of all. Assumes
+-- nothing.
+use mathlib.Core.Path.{◌≡◌, refl, sym, ◌∙◌}
+use Prim.Native.Nat.{◌<◌, ◌-◌}
+use native.Mathlib.Omega.{arith}
+use lib.ListN.{length, drop}
+use borrow.Author.Rules.{rules}
+use Rattle.digests.specs.Digesting.{modulus, digest_from, digest_of}
+use Rattle.digests.proofs.Turns.{digest_next, digest_end}
+use Rattle.digests.proofs.digest_words.Given as goal
+
+abbrev pub invariant-loop-i : goal.invariant-loop-i
+invariant-loop-i l = (l.h < modulus) × (digest_from l.h (drop l.i l.words) ≡ digest_of l.words)
+
+abbrev pub decreases-loop-i : goal.decreases-loop-i
+decreases-loop-i l = length l.words - l.i

@@ -1,0 +1,10 @@
+-- `moves::payload` meets its contract. Assumes nothing.
+use borrow.Author.Rules.{rules}
+use Rattle.moves.proofs.Laws.{ends}
+use Rattle.moves.proofs.payload.Goals as goal
+
+pub returns-then-not-is_refused : goal.returns-then-not-is_refused
+returns-then-not-is_refused c = search ends
+
+pub returns-else-not-is_refused : goal.returns-else-not-is_refused
+returns-else-not-is_refused c = search ends

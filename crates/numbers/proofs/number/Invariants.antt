@@ -1,0 +1,17 @@
+-- `numbers::number` meets its contract: the answer of the bytes that are left stays what it was at the start. Assumes nothing.
+use mathlib.Core.Path.{◌≡◌, sym, ◌∙◌}
+use Prim.Native.Nat.{◌-◌, ◌≤◌}
+use native.Mathlib.Omega.{arith}
+use lib.Dec.{ltb}
+use lib.ListN.{length, drop}
+use borrow.Author.Rules.{rules}
+use borrow.Author.Tests.{not-true, not-false}
+use Rattle.numbers.specs.Reading.{number_from, number_at}
+use Rattle.numbers.proofs.Turns.{at_least, at_start, at_end, at_other, at-past, at-digit}
+use Rattle.numbers.proofs.number.Given as goal
+
+abbrev pub invariant-loop-i : goal.invariant-loop-i
+invariant-loop-i l = (l.from ≤ l.i) × (number_from l.most l.value (ltb l.from l.i) l.i (drop l.i l.line) ≡ number_at l.line l.from l.most)
+
+abbrev pub decreases-loop-i : goal.decreases-loop-i
+decreases-loop-i l = length l.line - l.i

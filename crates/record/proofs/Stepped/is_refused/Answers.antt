@@ -1,0 +1,6 @@
+-- `record::Stepped::is_refused` meets its contract: the answer's class is the call's. Assumes nothing.
+use borrow.Author.Rules.{rules}
+use Rattle.record.proofs.Stepped.is_refused.Goals as goal
+
+pub returns : goal.returns
+returns c = c.is_refused.ensures

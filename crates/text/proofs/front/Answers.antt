@@ -1,0 +1,15 @@
+-- `text::front` meets its contract. Assumes nothing.
+use mathlib.Core.Path.{refl, sym}
+use native.Mathlib.Nat.{le_of_lt}
+use lib.Seq.{take_all, length-take-le}
+use borrow.Author.Rules.{rules}
+use Rattle.text.proofs.front.Goals as goal
+
+pub slice_bounds-result-end : goal.slice_bounds-result-end
+slice_bounds-result-end c = sym (length-take-le _ _ (le_of_lt c.if-n-bytes.true))
+
+pub returns : goal.returns
+returns c = sym (take_all _ _ c.if-n-bytes.false)
+
+pub returns-then-n-bytes : goal.returns-then-n-bytes
+returns-then-n-bytes = (search rules)

@@ -1,0 +1,24 @@
+-- `text::put_byte` meets its contract. Assumes nothing.
+use mathlib.Core.Path.{refl}
+use borrow.Author.Rules.{rules}
+use borrow.Author.Tests.{lt-ltb, le-ltb}
+use Rattle.choice.proofs.Picks.{yes, no}
+use Rattle.text.specs.Writing.{put_byte}
+use Rattle.text.proofs.put_byte.Goals as goal
+
+pub returns-then-written-buffer : goal.returns-then-written-buffer
+unfolding put_byte
+returns-then-written-buffer c = yes _ (lt-ltb _ _ c.if-written-buffer.true) refl
+
+pub returns : goal.returns
+unfolding put_byte
+returns c = no _ (le-ltb _ _ c.if-written-buffer.false) refl
+
+pub bounds-buffer-written : goal.bounds-buffer-written
+bounds-buffer-written = (search rules)
+
+pub overflow_add-result : goal.overflow_add-result
+overflow_add-result = (search rules)
+
+pub shape_of-buffer-then-written-buffer : goal.shape_of-buffer-then-written-buffer
+shape_of-buffer-then-written-buffer = (search rules)
