@@ -8,7 +8,7 @@
 use mathlib.Core.Path.{◌≡◌, sym, ap, subst}
 use mathlib.Core.List.{List, [], ◌∷◌}
 use seplogic.Ra.Ura.{Ura}
-use mir.Syntax.{Name, Place, Opd as Operand, Body, seq, call}
+use mir.Syntax.{Callee, Place, Opd as Operand, Body, seq, call}
 use mir.Val.{Val}
 use base.Logic.{SProp, ent, emp, sep, via, id⊢, comm∗, emp∗, mono∗, mono_l, mono_r}
 use base.Fml.{Fml, fsep}
@@ -35,7 +35,7 @@ module _ {M : Type 1} {𝓤 : Ura M} (𝓛 : Logic 𝓤) (T : Ended) (c : Clause
   abbrev pub Promise : Contract 𝓤
   Promise = triple_of 𝓛 T.signature (closing 𝓛 T c)
 
-  abbrev pub Known : Calls 𝓤 H → Name → Type 1
+  abbrev pub Known : Calls 𝓤 H → Callee → Type 1
   Known C f = Triple 𝓤 (C f) Promise
 
   -- what is passed and bound, y: the machine value v comes back, and with it the result r and the last values ws
@@ -86,7 +86,7 @@ module _ {M : Type 1} {𝓤 : Ura M} {𝓛 : Logic 𝓤} {K : Type 0} {Γ : List
       at_low : Is (Result 𝓛 T c y) z (v ∷ []) → Seq K 𝓛 (raw (Tokens 𝓛 T c y) ∷ Γ) (lands C Λ E d v rest q)
       at_low is = subst (λ (w : Val). Is (Result 𝓛 T c y) z (w ∷ []) → Seq K 𝓛 (raw (Tokens 𝓛 T c y) ∷ Γ) (lands C Λ E d w rest q)) (sym (ap only (D.tells z (v ∷ []) is))) k is
 
-  module _ {f : Name} {xs : List Operand} where
+  module _ {f : Callee} {xs : List Operand} where
     pub calls-said : K → FmC 𝓤 H 𝓛.laws C → (T : Ended) (c : Clauses 𝓤 T) → Known 𝓛 T c C f → (y : (Promise 𝓛 T c).Ghost) (i : Item 𝓤) → ent 𝓤 (mean 𝓛 i) ((Promise 𝓛 T c).pre y)
         → Opds K 𝓛 (i ∷ Γ) E xs ((Promise 𝓛 T c).args y)
         → ((v : Val) (r : (Result 𝓛 T c y).Denot) (ws : Lasts T y.0.0 y.0.3) → Seq K 𝓛 (‵ ((Result 𝓛 T c y).own_val r (v ∷ [])) ∷ raw (Ensured 𝓛 T c y r ws) ∷ ‵ (lasts T y.0.0 y.0.3 ws) ∷ raw (Tokens 𝓛 T c y) ∷ Γ) (lands C Λ E d v rest q))

@@ -9,7 +9,7 @@ use mathlib.Core.Path.{◌≡◌, subst}
 use Prim.Native.Nat.{ℕ, zero}
 use mathlib.Core.List.{List, [], ◌∷◌}
 use seplogic.Ra.Ura.{Ura}
-use seplogic.Ra.TreeShare.{full_share}
+use base.Fraction.{full_share}
 use mir.Syntax.{Ty, Fn}
 use mir.Val.{Val}
 use base.Logic.{ent, sep, emp, id⊢, emp∗, via, mono_r, mono∗}

@@ -21,5 +21,5 @@ returns-in-3 c = simp c.in-3.is
 pub returns-in_default : goal.returns-in_default
 unfolding live_of
 returns-in_default c =
-    let left = c.in_default.rest in
+    let left = c.in_default.in_default-own.rest in
     no _ (ne_eqb _ _ left.0.0.1) (no _ (ne_eqb _ _ left.0.1) (no _ (ne_eqb _ _ left.1) refl))

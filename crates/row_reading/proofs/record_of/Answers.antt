@@ -38,7 +38,7 @@ unfolding record_of
 returns-then-in_ranges c =
     let start = c in
     yes _ (join (eq-eqb _ _ start.well_formed.0.1.0.1) (told c.in_ranges.ensures c.if-in_ranges.true))
-    (ap (λ (live : Live). Fits (with_ticket (at start.args.t1 1) live (made start.args.t1))) c.live_of-live.ensures)
+    (ap (λ (live : Live). Fits (with_ticket (at start.args.row 1) live (made start.args.row))) c.live_of-live.ensures)
 
 pub returns : goal.returns
 unfolding record_of

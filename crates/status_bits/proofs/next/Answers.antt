@@ -14,7 +14,9 @@ pub returns-in-Cancel : goal.returns-in-Cancel
 returns-in-Cancel c = simp (c.in-Cancel.is, c.with-in-Cancel.ensures)
 
 pub with-requires : goal.with-requires
+unfolding has
 with-requires c = (search rules, λ e. omega (tests, e))
 
 pub with-requires-in-Cancel : goal.with-requires-in-Cancel
+unfolding has
 with-requires-in-Cancel c = (search rules, λ e. omega (tests, e))

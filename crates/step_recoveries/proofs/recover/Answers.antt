@@ -10,7 +10,7 @@ use borrow.Author.Rules.{rules}
 use Rattle.step_recoveries.proofs.recover.Goals as goal
 
 pub recovered-requires : goal.recovered-requires
-recovered-requires c κs h =
+recovered-requires c h =
     let k = c in
     let r = k.args.r in
     let row = long_snapshot k.args.length [] in

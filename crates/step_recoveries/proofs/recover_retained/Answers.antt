@@ -9,7 +9,7 @@ use borrow.Author.Rules.{rules}
 use Rattle.step_recoveries.proofs.recover_retained.Goals as goal
 
 pub recovered-requires : goal.recovered-requires
-recovered-requires c κs h =
+recovered-requires c h =
     let r = c.args.r in
     (room_behind _ _ r (recover_bars r []) (λ x. not-false _ x.0) c.recover_gate.ensures h).1
 

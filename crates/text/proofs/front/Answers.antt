@@ -10,6 +10,3 @@ slice_bounds-result-end c = sym (length-take-le _ _ (le_of_lt c.if-n-bytes.true)
 
 pub returns : goal.returns
 returns c = sym (take_all _ _ c.if-n-bytes.false)
-
-pub returns-then-n-bytes : goal.returns-then-n-bytes
-returns-then-n-bytes = (search rules)

@@ -13,12 +13,3 @@ returns-then-written-buffer c = yes _ (lt-ltb _ _ c.if-written-buffer.true) refl
 pub returns : goal.returns
 unfolding put_byte
 returns c = no _ (le-ltb _ _ c.if-written-buffer.false) refl
-
-pub bounds-buffer-written : goal.bounds-buffer-written
-bounds-buffer-written = (search rules)
-
-pub overflow_add-result : goal.overflow_add-result
-overflow_add-result = (search rules)
-
-pub shape_of-buffer-then-written-buffer : goal.shape_of-buffer-then-written-buffer
-shape_of-buffer-then-written-buffer = (search rules)

@@ -24,7 +24,7 @@ past place h =
 
 pub returns-in_default : goal.returns-in_default
 returns-in_default c =
-    let r = c.in_default.rest in
+    let r = c.in_default.in_default-own.rest in
     let other = r.0.0.0.0 in
     past _ (up 7 _ (up 6 _ (up 5 _ (up 4 _ (up 3 _ (up 2 _ (up 1 _ (omega (arith, other.0.0.0.1)) other.0.0.1) other.0.1) other.1)
     r.0.0.0.1) r.0.0.1) r.0.1) r.1)

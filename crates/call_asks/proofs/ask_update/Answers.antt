@@ -1,0 +1,6 @@
+-- `call_asks::ask_update` meets its contract: nothing is lent, so that it is the step itself. Assumes nothing.
+use borrow.Author.Rules.{rules}
+use Rattle.call_asks.proofs.ask_update.Goals as goal
+
+pub returns : goal.returns
+returns c = rw c.of.ensures at c.ask_update.ensures

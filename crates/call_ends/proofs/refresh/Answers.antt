@@ -1,0 +1,10 @@
+-- `call_ends::refresh` meets its contract: areas of the right size are exchanged whole. Assumes nothing.
+use Rattle.moves.proofs.Sizes.{crossed}
+use borrow.Author.Rules.{rules}
+use Rattle.call_ends.proofs.refresh.Goals as goal
+
+pub returns : goal.returns
+returns c =
+    let s = c in
+    crossed _ _ _ _ c.exchange.ensures s.refresh-stepped.ensures s.of-found.ensures
+    s.is_sized.ensures s.is_sized-2.ensures

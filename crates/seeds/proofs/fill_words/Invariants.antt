@@ -1,0 +1,12 @@
+-- `seeds::fill_words` meets its contract: to fill what is left stays what it was at the start. Assumes nothing.
+use Rattle.std.proofs.Common.{◌≡◌, ◌-◌, ◌^◌, length, sym, ◌∙◌, arith, rules}
+use Rattle.seeds.specs.Seeds.{words_over}
+use Rattle.seeds.proofs.Seeding.{seeded_from, seed_start, seed_next, seed_done, seed_end}
+use Rattle.seeds.proofs.fill_words.Given as goal
+
+abbrev pub invariant-loop-i : goal.invariant-loop-i
+invariant-loop-i l = (length l.words ≡ length l.initial.words)
+    × (seeded_from (2 ^ 64) l.named.count l.named.seed l.i l.words ≡ words_over l.named.count l.named.seed l.initial.words)
+
+abbrev pub decreases-loop-i : goal.decreases-loop-i
+decreases-loop-i l = length l.initial.words - l.i
