@@ -43,12 +43,12 @@ use Rattle.demand_chains.proofs.OneDue.{Due}
 
 -- the ticket of such an answer, "serial plus one", is live
 record Issues (live : ℕ → Live) (r : Record) (x : Told) : Type 0 where
-  is_live_lem : ticketed x.class ≡ true → x.state.live ≡ live (get_or x.values 0 0)
+  is_live : ticketed x.class ≡ true → x.state.live ≡ live (get_or x.values 0 0)
   carries : ticketed x.class ≡ true → said_of x ≡ says (A.Ticket (r.serial + 1) (get_or x.values 1 0))
   raises : ticketed x.class ≡ true → x.state.serial ≡ r.serial + 1
 
 other : {live : ℕ → Live} {r : Record} {x : Told} → ticketed x.class ≡ false → Issues live r x
-other h = record { is_live_lem = λ e. clash _ e h; carries = λ e. clash _ e h; raises = λ e. clash _ e h }
+other h = record { is_live = λ e. clash _ e h; carries = λ e. clash _ e h; raises = λ e. clash _ e h }
 
 -- behind three tests
 last : {live : ℕ → Live} {r : Record} {x y z v : Told} (b c d : Bool) → Issues live r x → Issues live r y → Issues live r z → Issues live r v →
@@ -58,15 +58,15 @@ last {live} {r} b c d p q i j = let P : Told → Type 0 = Issues live r in each 
 module _ (r : Record) where
   structure_issues : Issues Structure r (ask_structure_own r)
   unfolding ask_structure_own
-  structure_issues = last _ _ _ (other refl) (other refl) (other refl) (record { is_live_lem = λ e. refl; carries = λ e. refl; raises = λ e. refl })
+  structure_issues = last _ _ _ (other refl) (other refl) (other refl) (record { is_live = λ e. refl; carries = λ e. refl; raises = λ e. refl })
 
   update_issues : Issues Update r (ask_update_own r)
   unfolding ask_update_own
-  update_issues = last _ _ _ (other refl) (other refl) (other refl) (record { is_live_lem = λ e. refl; carries = λ e. refl; raises = λ e. refl })
+  update_issues = last _ _ _ (other refl) (other refl) (other refl) (record { is_live = λ e. refl; carries = λ e. refl; raises = λ e. refl })
 
   rollback_issues : Issues Rollback r (ask_rollback_own r)
   unfolding ask_rollback_own turned
-  rollback_issues = last _ _ _ (other refl) (other refl) (other refl) (record { is_live_lem = λ e. refl; carries = λ e. refl; raises = λ e. refl })
+  rollback_issues = last _ _ _ (other refl) (other refl) (other refl) (record { is_live = λ e. refl; carries = λ e. refl; raises = λ e. refl })
 
 -- a report of the live ticket of its kind, Done, is answered Finished or More
 abbrev Takes : Told → Type 0
@@ -93,7 +93,7 @@ module _ (r : Record) (t : ℕ) where
 -- after the asking, the record is whole and its ticket live; only a whole record gives one
 record Issued (live : Live) (r : Record) : Type 0 where
   is_whole : whole r ≡ true
-  is_live_lem : r.live ≡ live
+  is_live : r.live ≡ live
 
 issued : (live : ℕ → Live) (r : Record) (c : Call) (t i : ℕ) → Typed (standing r) → Issues live r (own r c) → said_of (step r c) ≡ says (A.Ticket t i) →
     Issued (live t) (step r c).state
@@ -101,7 +101,7 @@ issued live r c t i m f h =
     let n : ticketed (step r c).class ≡ true = ap (λ (s : Said). ticketed s.class) h in
     test (whole r) (λ w. record {
       is_whole = (whole_kept r c m w).0;
-      is_live_lem = rw (whole_step r c w) (f.is_live (rw (whole_step r c w) at n)) ∙ ap (λ (s : Said). live (get_or s.values 0 0)) h;
+      is_live = rw (whole_step r c w) (f.is_live (rw (whole_step r c w) at n)) ∙ ap (λ (s : Said). live (get_or s.values 0 0)) h;
     })
     (λ w. never (sym (rw (damaged_step r c w) at n)))
 

@@ -37,7 +37,7 @@ pub chain_keeps : (P : Watch → Record → Type 0) → ((w : Watch) (r : Record
     (w : Watch) (r : Record) (ss : List Sent) → P w r → P (watch w (heard_sent r ss)) (after_sent r ss)
 unfolding watch heard_sent after_sent
 chain_keeps P f w r [] p = p
-chain_keeps P f w r (s ∷ ss) p = chain_keeps P f _ _ ss (f w r _ _ (sent_leaf r s) p)
+chain_keeps P f w r (s ∷ ss) p = chain_keeps P f (sees w s.call (said_of (answered r s))) (answered r s).state ss (f w r _ _ (sent_leaf r s) p)
 
 -- a plain chain is a chain of calls that are sent plainly
 module _ (r : Record) where

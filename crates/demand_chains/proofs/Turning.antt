@@ -95,5 +95,5 @@ turned_law w r (s ∷ ss) g i v n =
     let l = sent_leaf r s in
     let q = neither n in
     let x = stays w g.tied i v l (sent_shut r (sym g.tied.turning ∙ v) s) q.0 in
-    let y = turned_law _ _ ss (good_leaf l g) x.running x.turned q.1 in
+    let y = turned_law (sees w s.call (said_of (answered r s))) (answered r s).state ss (good_leaf l g) x.running x.turned q.1 in
     record { running = y.running; turned = y.turned; structural = y.structural ∙ x.structural; started = y.started ∙ x.started; uncommitted = y.uncommitted }

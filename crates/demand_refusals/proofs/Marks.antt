@@ -2,13 +2,17 @@
 -- the status bytes; the group bytes are only read, by their type. Assumes nothing.
 use Prim.Native.Nat.{ℕ}
 use mathlib.Core.Path.{◌≡◌, refl}
-use mathlib.Core.Bool.{true}
+use mathlib.Core.Bool.{Bool, true, not}
 use mathlib.Core.List.{List}
 use lib.Dec.{eqb}
+use lib.ListN.{get_or}
 use Rattle.choice.specs.Pick.{◌and◌, ◌or◌}
 use Rattle.answers.specs.Classes.{number_of, refused}
 use Rattle.status_bits.specs.declared.StatusCall.{StatusCall}
-use Rattle.status.specs.Status.{Marks, Entry, put, entry_of, marking, marks_of}
+use Rattle.answers.specs.declared.Refusal.TheVariants.{BadArea, Damaged, NoStatus}
+use Rattle.status_bits.specs.Bits.{allowed}
+use Rattle.status.specs.Status.{Marks, Entry, put, entry_of, marking, marks_of, other_lengths, outside, bytes_sound}
+use Rattle.status.specs.Status.Entry.{At, No}
 use Rattle.demand_refusals.specs.Rows.{given, among, distinct, how_many}
 use Rattle.demand_refusals.specs.Marks.{status_rows, status_numbers}
 use Rattle.demand_refusals.proofs.Rows.{View, Fits, row, last, around, under, over}
@@ -19,12 +23,26 @@ module _ (groups status : List ℕ) (id : ℕ) where
   abbrev leaving : View Marks
   leaving = record { class = λ m. m.said.class; number = λ m. m.said.number; same = λ m. m.status ≡ status }
 
+  abbrev group : ℕ
+  group = get_or groups id 0
+
+  abbrev mark : ℕ
+  mark = get_or status id 0
+
+  abbrev sound : Bool
+  sound = bytes_sound group mark
+
+  abbrev allows : StatusCall → Bool
+  allows c = allowed c group mark
+
   fits_rows : (c : StatusCall) → Fits leaving (marks_of groups status id c) (status_rows groups status id c)
   unfolding status_rows entry_of marking put ◌and◌
   fits_rows c =
-      over F
-      (row _ (stays refl refl refl) (λ _. around _ _ _ (stays refl refl refl)
-      (row _ (stays refl refl refl) (λ _. under F (row {v = leaving} _ (stays refl refl refl) (λ _. last refl refl refl))))))
+      over F {x = entry_of groups status id}
+      (row {x = No BadArea} {k = 6} (other_lengths groups status) (stays refl refl refl) (λ _.
+      around {x = No NoStatus} {k = 13} {m = 7} (outside status id) (not sound) (not (allows c)) (stays refl refl refl)
+      (row {x = No Damaged} {k = 7} (not sound) (stays refl refl refl) (λ _.
+      under F {x = At id group mark} (row {v = leaving} {k = 13} (not (allows c)) (stays refl refl refl) (λ _. last refl refl refl))))))
     where
       F : Entry → Marks
       F = marking c status
