@@ -18,7 +18,7 @@ use Rattle.demand_steps.specs.Typed.{Typed}
 use Rattle.demand_steps.specs.Knowing.{Item, Watch, unwatched}
 use Rattle.demand_steps.specs.Watching.{is_for, sees, watch}
 use Rattle.demand_steps.specs.Knowing.Item.{settle, apply, undo}
-use Rattle.demand_steps.proofs.{Facts.Whole, Facts.by_case, Testing.ranges, Wholeness.successor_test, Tickets.is_live, Tickets.on_structure, Tickets.on_update, Tickets.on_rollback}
+use Rattle.demand_steps.proofs.{Facts.Whole, Facts.by_case, Testing.ranges, Wholeness.successor_test, Tickets.is_live_lem, Tickets.on_structure, Tickets.on_update, Tickets.on_rollback}
 use Rattle.demand_steps.proofs.{Moves.Along, Moves.goes_up, Moves.goes_down, Moves.in_along, Moves.Along.start, Moves.Along.close, Moves.Along.back, Leaf.Leaf}
 use Rattle.demand_steps.proofs.Leaf.Leaf.{kept, began, structure_asked, update_ended, update_asked, rollback_ended, turned_empty, turned_asked, waited, went, update_taken, undo_taken}
 use Rattle.demand_steps.proofs.Leaf.Leaf.{committed, recovered, restored, refreshed}

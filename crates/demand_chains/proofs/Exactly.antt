@@ -29,7 +29,7 @@ use Rattle.demand_chains.proofs.Course.Kind.{update_only, structural}
 use Rattle.demand_chains.proofs.Course.Course.{ahead, behind}
 use Rattle.demand_chains.proofs.Chain.{Good, undamaged}
 
-length_firsts : (plan : ℕ → Item) (m : ℕ) → length (firsts plan m) ≡ m
+pub length_firsts : (plan : ℕ → Item) (m : ℕ) → length (firsts plan m) ≡ m
 length_firsts plan zero = refl
 length_firsts plan (suc m) = simp (length-append, length_firsts plan m) (omega arith)
 

@@ -75,8 +75,11 @@ module _ (w : Watch) (r : Record) (g : Good w r) (i : w.running ≡ true) where
   pub back_law : w.turned ≡ true → Recoveries r (back w)
   back_law t = by_test (back w) (backward_law w r g i t).exact
 
-  pub early_law : w.turned ≡ false → Recoveries r (untouched w)
-  early_law t =
+  pub early_exact : w.turned ≡ false → successful (step r recover_retained).class ≡ untouched w
+  early_exact t =
       let v : r.restoring ≡ false = sym g.tied.turning ∙ t in
-      by_test (untouched w) (recover_is g.is_whole (sym g.tied.running ∙ i) ∙ early_row g.is_whole.stage g.tied.kind v ∙
-      ap (λ (n : ℕ). not w.structural and eqb n 0) (of_size g.tied.course v))
+      recover_is g.is_whole (sym g.tied.running ∙ i) ∙ early_row g.is_whole.stage g.tied.kind v
+      ∙ ap (λ (n : ℕ). not w.structural and eqb n 0) (of_size g.tied.course v)
+
+  pub early_law : w.turned ≡ false → Recoveries r (untouched w)
+  early_law t = by_test (untouched w) (early_exact t)

@@ -46,7 +46,7 @@ use Rattle.demand_chains.proofs.Revision.{chain_gains, chain_counts}
 use Rattle.demand_chains.proofs.Stamps.{stamp_law}
 use Rattle.demand_chains.proofs.Demands.{demand_three}
 
-good_opening : (given : Opening) (l : ℕ) → Typed given → l ≤ area_size → Good unwatched (opening given l)
+pub good_opening : (given : Opening) (l : ℕ) → Typed given → l ≤ area_size → Good unwatched (opening given l)
 unfolding opening unwatched
 good_opening given l m h = record {
   is_whole = idles given l m h;

@@ -44,7 +44,7 @@ use Rattle.demand_steps.proofs.Leaf.Goes.{last, more}
 use Rattle.demand_steps.proofs.Leaf.Leaf.{kept, began, structure_asked, update_ended, update_asked, rollback_ended, turned_empty, turned_asked, waited, went, update_taken, undo_taken, committed, recovered, restored, refreshed}
 
 -- which tests must fail for a call to be performed, as facts
-open_tests : (p : ℕ) → eqb p 0 or eqb p 5 or eqb p 8 ≡ false → eqb p 7 or eqb p 13 ≡ false → Apart p
+pub open_tests : (p : ℕ) → eqb p 0 or eqb p 5 or eqb p 8 ≡ false → eqb p 7 or eqb p 13 ≡ false → Apart p
 open_tests p e d =
     let x = neither e in
     let y = neither x.0 in

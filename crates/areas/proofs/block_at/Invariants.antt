@@ -1,11 +1,8 @@
 -- `areas::block_at` meets its contract: after j turns the first j bytes are read. Assumes nothing.
-use mathlib.Core.Path.{◌≡◌, refl}
+use mathlib.Core.Path.{◌≡◌}
 use Prim.Native.Nat.{◌-◌, ◌≤◌}
-use native.Mathlib.Omega.{arith}
 use lib.ListN.{length, drop}
-use borrow.Author.Rules.{rules}
-use Rattle.areas.proofs.Over.{Copying, copy_none, copy_full}
-use Rattle.areas.proofs.Blocks.{read_more}
+use Rattle.areas.proofs.Over.{Copying}
 use Rattle.areas.specs.Blocks.{block_size}
 use Rattle.areas.proofs.block_at.Given as goal
 

@@ -1,13 +1,10 @@
 -- `areas::copy_words` meets its contract: after i turns the first i words are copied. Assumes nothing.
 use mathlib.Core.Path.{refl}
-use Prim.Native.Nat.{◌-◌}
 use native.Mathlib.Omega.{arith}
-use lib.ListN.{length}
 use borrow.Author.Tests.{lt-ltb, le-ltb}
 use Rattle.choice.proofs.Picks.{yes, no}
 use Rattle.areas.specs.Areas.{copied}
-use Rattle.areas.proofs.Over.{Copying, copy_none, copy_more, copy_all}
-use borrow.Author.Rules.{rules}
+use Rattle.areas.proofs.Over.{copy_none, copy_more, copy_all}
 use Rattle.areas.proofs.copy_words.Goals as goal
 
 pub returns-then-dst-n : goal.returns-then-dst-n

@@ -1,13 +1,7 @@
 -- `areas::copy_words` meets its contract: after i turns the first i words are copied. Assumes nothing.
-use mathlib.Core.Path.{refl}
 use Prim.Native.Nat.{◌-◌}
-use native.Mathlib.Omega.{arith}
 use lib.ListN.{length}
-use borrow.Author.Tests.{lt-ltb, le-ltb}
-use Rattle.choice.proofs.Picks.{yes, no}
-use Rattle.areas.specs.Areas.{copied}
-use Rattle.areas.proofs.Over.{Copying, copy_none, copy_more, copy_all}
-use borrow.Author.Rules.{rules}
+use Rattle.areas.proofs.Over.{Copying}
 use Rattle.areas.proofs.copy_words.Given as goal
 
 abbrev pub invariant-loop-i : goal.invariant-loop-i

@@ -1,5 +1,4 @@
 -- `areas::exchange_blocks` meets its contract: each block that is put is what was read of the other area. Assumes nothing.
-use borrow.Author.Rules.{rules}
 use Rattle.areas.specs.Blocks.{block_size}
 use Rattle.areas.proofs.Blocks.{put_read}
 use Rattle.areas.proofs.exchange_blocks.Goals as goal

@@ -1,9 +1,6 @@
 -- `areas::exchange_bytes` meets its contract: up to i, what stands from the place on has changed places. Assumes nothing.
-use Prim.Native.Nat.{◌-◌, ◌≤◌}
 use native.Mathlib.Omega.{arith}
-use lib.ListN.{length}
-use borrow.Author.Rules.{rules}
-use Rattle.areas.proofs.Over.{over, over_long, Copying, copy_from, swap_more, copy_whole}
+use Rattle.areas.proofs.Over.{over_long, copy_from, swap_more, copy_whole}
 use Rattle.areas.proofs.exchange_bytes.Goals as goal
 
 pub loop-i-init : goal.loop-i-init

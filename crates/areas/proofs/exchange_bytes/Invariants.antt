@@ -1,9 +1,7 @@
 -- `areas::exchange_bytes` meets its contract: up to i, what stands from the place on has changed places. Assumes nothing.
 use Prim.Native.Nat.{◌-◌, ◌≤◌}
-use native.Mathlib.Omega.{arith}
 use lib.ListN.{length}
-use borrow.Author.Rules.{rules}
-use Rattle.areas.proofs.Over.{over, over_long, Copying, copy_from, swap_more, copy_whole}
+use Rattle.areas.proofs.Over.{over, Copying}
 use Rattle.areas.proofs.exchange_bytes.Given as goal
 
 abbrev pub invariant-loop-i : goal.invariant-loop-i

@@ -1,8 +1,6 @@
 -- `areas::put_block` meets its contract: after j turns the first j bytes are put. Assumes nothing.
-use Prim.Native.Nat.{◌-◌, ◌≤◌}
 use native.Mathlib.Omega.{arith}
-use borrow.Author.Rules.{rules}
-use Rattle.areas.proofs.Blocks.{Putting, put_none, put_more, put_all}
+use Rattle.areas.proofs.Blocks.{put_none, put_more, put_all}
 use Rattle.areas.specs.Blocks.{block_size}
 use Rattle.areas.proofs.put_block.Goals as goal
 

@@ -1,6 +1,5 @@
 -- `batch::put_pairs` meets its contract: it is the copy of words. Assumes nothing.
 use Rattle.batch.specs.Batch.{pairs_in}
-use borrow.Author.Rules.{rules}
 use Rattle.batch.proofs.put_pairs.Goals as goal
 
 pub returns : goal.returns

@@ -2,7 +2,6 @@
 use mathlib.Core.Path.{refl, sym}
 use lib.Seq.{set_out}
 use Rattle.batch.specs.Batch.{stored}
-use borrow.Author.Rules.{rules}
 use Rattle.batch.proofs.store.Goals as goal
 
 pub returns-then-at-table : goal.returns-then-at-table

@@ -6,10 +6,9 @@ use lib.ListN.{length}
 use borrow.Author.Tests.{lt-ltb, le-ltb}
 use Rattle.choice.proofs.Picks.{yes, no}
 use Rattle.areas.specs.Areas.{copied}
-use Rattle.areas.proofs.Over.{Copying, copy_none, copy_all}
+use Rattle.areas.proofs.Over.{copy_none, copy_all}
 use Rattle.areas.proofs.Blocks.{part_more}
 use Rattle.copies.specs.Copies.{block_size}
-use borrow.Author.Rules.{rules}
 use Rattle.copies.proofs.copy_bytes.Goals as goal
 
 pub returns-then-dst-n : goal.returns-then-dst-n

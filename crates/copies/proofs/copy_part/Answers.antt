@@ -1,14 +1,12 @@
 -- `copies::copy_part` meets its contract: after j turns the first j bytes are read, and then put. Assumes nothing.
 use mathlib.Core.Path.{◌≡◌, refl, ap, subst, ◌∙◌}
 use mathlib.Core.List.{List, ◌++◌}
-use Prim.Native.Nat.{ℕ, ◌+◌, ◌-◌, ◌≤◌}
+use Prim.Native.Nat.{ℕ, ◌+◌}
 use native.Mathlib.Omega.{arith}
-use lib.ListN.{length, take, drop}
+use lib.ListN.{take, drop}
 use lib.Seq.{paste}
-use borrow.Author.Rules.{rules}
 use Rattle.areas.proofs.Over.{Copying, copy_none}
 use Rattle.areas.proofs.Blocks.{read_more, Putting, put_none, put_more, put_all, done}
-use Rattle.copies.specs.Copies.{block_size}
 use Rattle.copies.proofs.copy_part.Goals as goal
 
 -- what is put hangs on the first n bytes of the array, and these were read

@@ -4,7 +4,6 @@ use native.Mathlib.Omega.{arith}
 use Rattle.choice.proofs.Picks.{yes, no, told}
 use Rattle.phases.specs.Phases.{successor}
 use Rattle.phases.proofs.Laws.{successor_small}
-use borrow.Author.Rules.{rules}
 use Rattle.phases.proofs.Phase.successor.Goals as goal
 
 pub overflow_add-result : goal.overflow_add-result
