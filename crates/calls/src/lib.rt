@@ -2,4 +2,3 @@
 // `proofs` has what is known of an answer that is written, and of one that is not. The contracts of the transaction and of the
 // recorder, and every theorem above them, speak of these definitions.
 #![tactic(auto)]
-

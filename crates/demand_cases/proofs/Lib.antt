@@ -8,3 +8,4 @@ pub mod Stored
 pub mod LoggedExhibit
 pub mod HeldExhibit
 pub mod ReplayExhibit
+pub mod PlainExhibit

@@ -2,4 +2,3 @@
 // the demands say of a chain's record and of what the watcher knows; `proofs` ties the watcher to the record, call by call, and has the
 // demands as theorems, from an opening (Theorems.antt, Stamps.antt) and from any whole record (From.antt).
 #![tactic(auto)]
-

@@ -2,4 +2,3 @@
 // enough the log lists the events of the plain chain, what becomes of a full one, and demands 2 and 3 of a chain of real calls, each
 // handed all that the last left (HeldTheorems.antt).
 #![tactic(auto)]
-

@@ -3,4 +3,3 @@
 // refusal leaves all as it was, that the retired number is never given, and that every promise determines what its call answers and
 // leaves.
 #![tactic(auto)]
-

@@ -3,4 +3,3 @@
 // Every.antt), that an event is bad exactly if it is no call's (Events.antt, Good.antt), that replaying recorded calls is their chain, and that the
 // recorder's log has the replayed numbers (Theorems.antt).
 #![tactic(auto)]
-

@@ -1,6 +1,5 @@
 -- `audit_lines::audit` meets its contract, a finding of the first question at a time. Assumes nothing.
 use mathlib.Core.Path.{◌∙◌, ap}
-use borrow.Author.Rules.{rules}
 use Rattle.plain.specs.declared.Question.TheVariants.{Phase}
 use Rattle.audit_lines.specs.declared.Audited.TheVariants.{Found}
 use Rattle.audit_lines.proofs.Finding.{number, tells, answers}

@@ -2,7 +2,6 @@
 use mathlib.Core.Path.{sym}
 use native.Mathlib.Omega.{arith}
 use lib.ListN.{get_or-eq_default}
-use borrow.Author.Rules.{rules}
 use Rattle.audit_lines.proofs.counted.Goals as goal
 
 pub returns-then-words-eq0 : goal.returns-then-words-eq0

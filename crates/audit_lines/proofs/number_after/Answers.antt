@@ -1,5 +1,4 @@
 -- `audit_lines::number_after` meets its contract, a finding at a time. Assumes nothing.
-use borrow.Author.Rules.{rules}
 use Rattle.audit_lines.proofs.Finding.{number}
 use Rattle.audit_lines.proofs.number_after.Goals as goal
 

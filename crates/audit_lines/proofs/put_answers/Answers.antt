@@ -1,5 +1,4 @@
 -- `audit_lines::put_answers` meets its contract: the line is put. Assumes nothing.
-use borrow.Author.Rules.{rules}
 use Rattle.audit_lines.specs.Audits.{answers_text}
 use Rattle.audit_lines.proofs.put_answers.Goals as goal
 

@@ -1,5 +1,4 @@
 -- `call_asks::ask_update` meets its contract: nothing is lent, so that it is the step itself. Assumes nothing.
-use borrow.Author.Rules.{rules}
 use Rattle.call_asks.proofs.ask_update.Goals as goal
 
 pub returns : goal.returns

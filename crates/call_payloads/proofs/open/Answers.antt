@@ -1,7 +1,6 @@
 -- `call_payloads::open` meets its contract: the step goes by the area's size. Assumes nothing.
 use Rattle.areas.specs.Areas.{sized}
 use Rattle.moves.proofs.Sizes.{told_by}
-use borrow.Author.Rules.{rules}
 use Rattle.call_payloads.proofs.open.Goals as goal
 
 pub returns : goal.returns

@@ -1,6 +1,5 @@
 -- `call_reports::report_rollback` meets its contract: the step goes by the table's size. Assumes nothing.
 use Rattle.moves.proofs.Sizes.{by-table}
-use borrow.Author.Rules.{rules}
 use Rattle.call_reports.proofs.report_rollback.Goals as goal
 
 pub returns : goal.returns

@@ -2,7 +2,6 @@
 -- in turn. Assumes nothing.
 use Rattle.moves.proofs.Laws.{in_turn}
 use Rattle.moves.proofs.Sizes.{by_all}
-use borrow.Author.Rules.{rules}
 use Rattle.call_stages.proofs.begin_as.Goals as goal
 
 pub returns : goal.returns

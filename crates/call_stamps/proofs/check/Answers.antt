@@ -2,7 +2,6 @@
 use mathlib.Core.Path.{ap}
 use Rattle.answers.specs.Answers.{Said}
 use Rattle.record.specs.Answers.{told}
-use borrow.Author.Rules.{rules}
 use Rattle.call_stamps.proofs.check.Goals as goal
 
 pub returns : goal.returns

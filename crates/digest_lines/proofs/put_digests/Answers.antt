@@ -1,5 +1,4 @@
 -- `digest_lines::put_digests` meets its contract: its five lines are put one after the other. Assumes nothing.
-use borrow.Author.Rules.{rules}
 use Rattle.text.proofs.Putting.{put_five}
 use Rattle.digest_lines.specs.DigestTexts.{digests_text}
 use Rattle.digest_lines.proofs.put_digests.Goals as goal

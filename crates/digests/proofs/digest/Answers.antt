@@ -1,10 +1,6 @@
 -- `digests::digest` meets its contract: from the bytes that are left the digest stays what it is of all. Assumes nothing.
-use mathlib.Core.Path.{◌≡◌, refl, sym, ◌∙◌}
-use Prim.Native.Nat.{◌<◌, ◌-◌}
+use mathlib.Core.Path.{refl, sym, ◌∙◌}
 use native.Mathlib.Omega.{arith}
-use lib.ListN.{length, drop}
-use borrow.Author.Rules.{rules}
-use Rattle.digests.specs.Digesting.{modulus, digest_from, digest_of}
 use Rattle.digests.proofs.Turns.{digest_next, digest_end}
 use Rattle.digests.proofs.digest.Goals as goal
 

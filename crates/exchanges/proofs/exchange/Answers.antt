@@ -1,5 +1,4 @@
 -- `exchanges::exchange` meets its contract. Assumes nothing.
-use borrow.Author.Rules.{rules}
 use Rattle.moves.proofs.Laws.{ends}
 use Rattle.exchanges.proofs.exchange.Goals as goal
 

@@ -1,5 +1,4 @@
 -- `exchanges::replace` meets its contract. Assumes nothing.
-use borrow.Author.Rules.{rules}
 use Rattle.moves.proofs.Laws.{ends}
 use Rattle.exchanges.proofs.replace.Goals as goal
 

@@ -1,7 +1,6 @@
 -- `file_words::put` meets its contract. Assumes nothing.
 use mathlib.Core.Path.{sym}
 use lib.Seq.{set_out}
-use borrow.Author.Rules.{rules}
 use Rattle.file_words.proofs.put.Goals as goal
 
 pub returns-else-place-words : goal.returns-else-place-words

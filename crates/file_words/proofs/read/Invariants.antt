@@ -1,12 +1,8 @@
 -- `file_words::read` meets its contract. The invariant: the first i words are read. Assumes nothing.
-use Prim.Native.Nat.{ℕ, ◌+◌, ◌-◌, ◌/◌, ◌≤◌}
-use mathlib.Core.Path.{◌≡◌, refl, sym, ap, ◌∙◌}
-use mathlib.Core.List.{List}
-use lib.ListN.{length, set, length-set}
-use native.Mathlib.Numerals.{add-one}
-use native.Mathlib.Omega.{arith}
-use borrow.Author.Rules.{rules}
-use Rattle.file_words.specs.Words.{word_bytes, words_read, read}
+use Prim.Native.Nat.{◌-◌, ◌≤◌}
+use mathlib.Core.Path.{◌≡◌}
+use lib.ListN.{length}
+use Rattle.file_words.specs.Words.{words_read}
 use Rattle.file_words.proofs.read.Given as goal
 
 abbrev pub invariant-loop-i : goal.invariant-loop-i

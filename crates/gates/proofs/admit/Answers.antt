@@ -3,7 +3,6 @@ use mathlib.Core.Path.{refl}
 use Rattle.choice.specs.Pick.{◌and◌}
 use Rattle.choice.proofs.Picks.{yes, no}
 use Rattle.gates.specs.Gates.{gate_of}
-use borrow.Author.Rules.{rules}
 use Rattle.gates.proofs.admit.Goals as goal
 
 pub returns-then-not-found : goal.returns-then-not-found

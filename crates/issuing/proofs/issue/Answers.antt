@@ -4,7 +4,6 @@ use Prim.Native.Nat.{ℕ}
 use Rattle.record.specs.Fields.{with_ticket}
 use Rattle.record.specs.Answers.{answer}
 use Rattle.answers.specs.declared.Answer.TheVariants.{Ticket}
-use borrow.Author.Rules.{rules}
 use Rattle.issuing.proofs.issue.Goals as goal
 
 pub returns : goal.returns

@@ -1,5 +1,4 @@
 -- `lines::put_line` meets its contract: the word, the numbers, the newline. Assumes nothing.
-use borrow.Author.Rules.{rules}
 use Rattle.lines.proofs.Turns.{line}
 use Rattle.lines.proofs.put_line.Goals as goal
 

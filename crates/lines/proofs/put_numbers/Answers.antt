@@ -1,11 +1,7 @@
 -- `lines::put_numbers` meets its contract: to put the numbers that are left stays what it was at the start. Assumes nothing.
-use mathlib.Core.Path.{◌≡◌, refl, sym, ◌∙◌}
-use Prim.Native.Nat.{◌-◌}
+use mathlib.Core.Path.{refl, sym, ◌∙◌}
 use native.Mathlib.Omega.{arith}
-use lib.ListN.{length, drop}
 use borrow.Author.Rules.{rules}
-use Rattle.text.specs.Writing.{page, put_all}
-use Rattle.lines.specs.Lines.{numbers_text}
 use Rattle.lines.proofs.Turns.{number_next, number_end}
 use Rattle.lines.proofs.put_numbers.Goals as goal
 
@@ -24,17 +20,11 @@ returns c = sym (number_end _ _ _ _ c.loop-i-test.false) ∙ c.loop-i.invariant.
 pub loop-i-init : goal.loop-i-init
 loop-i-init c = (refl, refl)
 
-pub put_space-at-requires : goal.put_space-at-requires
-put_space-at-requires c = tt
-
 pub offset_bounds-numbers-i : goal.offset_bounds-numbers-i
 offset_bounds-numbers-i c = omega arith
 
 pub bounds-numbers-i : goal.bounds-numbers-i
 bounds-numbers-i c = omega arith
-
-pub put_decimal-at-requires : goal.put_decimal-at-requires
-put_decimal-at-requires c = tt
 
 pub overflow_add-i : goal.overflow_add-i
 overflow_add-i c = omega arith

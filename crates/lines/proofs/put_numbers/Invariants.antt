@@ -1,12 +1,9 @@
 -- `lines::put_numbers` meets its contract: to put the numbers that are left stays what it was at the start. Assumes nothing.
-use mathlib.Core.Path.{◌≡◌, refl, sym, ◌∙◌}
+use mathlib.Core.Path.{◌≡◌}
 use Prim.Native.Nat.{◌-◌}
-use native.Mathlib.Omega.{arith}
 use lib.ListN.{length, drop}
-use borrow.Author.Rules.{rules}
 use Rattle.text.specs.Writing.{page, put_all}
 use Rattle.lines.specs.Lines.{numbers_text}
-use Rattle.lines.proofs.Turns.{number_next, number_end}
 use Rattle.lines.proofs.put_numbers.Given as goal
 
 abbrev pub invariant-loop-i : goal.invariant-loop-i

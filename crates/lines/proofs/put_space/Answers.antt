@@ -1,8 +1,6 @@
 -- `lines::put_space` meets its contract. Assumes nothing.
-use mathlib.Core.Path.{refl, sym, ap, ◌∙◌}
-use borrow.Author.Rules.{rules}
 use Rattle.choice.specs.Pick.{pick}
-use Rattle.text.specs.Writing.{page, put_all}
+use Rattle.text.specs.Writing.{put_all}
 use Rattle.lines.specs.Lines.{space_if}
 use Rattle.lines.proofs.put_space.Goals as goal
 

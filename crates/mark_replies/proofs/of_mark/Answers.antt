@@ -1,5 +1,4 @@
 -- `mark_replies::of_mark` meets its contract. Assumes nothing.
-use borrow.Author.Rules.{rules}
 use Rattle.mark_replies.proofs.of_mark.Goals as goal
 
 pub returns-in-Done : goal.returns-in-Done

@@ -1,5 +1,4 @@
 -- `matching::decimal` meets its contract. Assumes nothing.
-use borrow.Author.Rules.{rules}
 use Rattle.matching.proofs.decimal.Goals as goal
 
 pub returns-in-Number : goal.returns-in-Number

@@ -1,10 +1,5 @@
 -- `matching::fits` meets its contract: to fit what is left of the template stays what it was at the start. Assumes nothing.
-use mathlib.Core.Path.{◌≡◌, refl, sym, ◌∙◌}
-use Prim.Native.Nat.{◌-◌}
-use native.Mathlib.Omega.{arith}
-use lib.ListN.{length, drop}
-use borrow.Author.Rules.{rules}
-use Rattle.matching.specs.Templates.{so_far, fits_from, fits_at}
+use mathlib.Core.Path.{refl, sym, ◌∙◌}
 use Rattle.matching.proofs.Turns.{fit_end, fit-newline, fit-wrong, fit_same, fit-number}
 use Rattle.matching.proofs.fits.Goals as goal
 use Rattle.matching.proofs.fits.Goals.{in-Same, in-Number}
@@ -33,8 +28,8 @@ loop-i-preserved c =
     let t = c.loop-i-test.true in
     let other = c.if-mark-eq10.false in
     elim c.match-take.branch [
-      in-Same w ↦ rw (w.numbers-is, w.at-is, w.count-is)
-        (fit_same _ _ _ _ _ t other (sym c.take.ensures ∙ w.in-Same.is) ∙ c.loop-i.invariant)
-    | in-Number w ↦ rw (w.numbers-is, w.at-is, w.count-is)
-        (fit-number _ _ _ _ _ t other (sym c.take.ensures ∙ w.in-Number.is) w.keep-count.ensures ∙ c.loop-i.invariant)
+      | in-Same w ↦ rw (w.numbers-is, w.at-is, w.count-is)
+          (fit_same _ _ _ _ _ t other (sym c.take.ensures ∙ w.in-Same.is) ∙ c.loop-i.invariant)
+      | in-Number w ↦ rw (w.numbers-is, w.at-is, w.count-is)
+          (fit-number _ _ _ _ _ t other (sym c.take.ensures ∙ w.in-Number.is) w.keep-count.ensures ∙ c.loop-i.invariant)
     ]

@@ -1,12 +1,8 @@
 -- `matching::fits` meets its contract: to fit what is left of the template stays what it was at the start. Assumes nothing.
-use mathlib.Core.Path.{◌≡◌, refl, sym, ◌∙◌}
-use mathlib.Core.Logic.{⊎_elim}
+use mathlib.Core.Path.{◌≡◌}
 use Prim.Native.Nat.{◌-◌}
-use native.Mathlib.Omega.{arith}
 use lib.ListN.{length, drop}
-use borrow.Author.Rules.{rules}
 use Rattle.matching.specs.Templates.{so_far, fits_from, fits_at}
-use Rattle.matching.proofs.Turns.{fit_end, fit-newline, fit-wrong, fit_same, fit-number}
 use Rattle.matching.proofs.fits.Given as goal
 
 abbrev pub invariant-loop-i : goal.invariant-loop-i

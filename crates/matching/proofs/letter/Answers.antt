@@ -1,6 +1,5 @@
 -- `matching::letter` meets its contract. Assumes nothing.
 use mathlib.Core.Path.{refl}
-use borrow.Author.Rules.{rules}
 use borrow.Author.Tests.{lt-ltb, le-ltb}
 use Rattle.choice.proofs.Picks.{yes, no}
 use Rattle.matching.specs.Templates.{letter_of}

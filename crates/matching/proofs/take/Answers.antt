@@ -1,6 +1,5 @@
 -- `matching::take` meets its contract. Assumes nothing.
 use mathlib.Core.Path.{refl}
-use borrow.Author.Rules.{rules}
 use borrow.Author.Tests.{le-leb, lt-leb, eq-eqb, ne_eqb}
 use Rattle.choice.specs.Pick.{◌and◌}
 use Rattle.choice.proofs.Picks.{yes, no}

@@ -1,5 +1,4 @@
 -- `moves::pairs` meets its contract. Assumes nothing.
-use borrow.Author.Rules.{rules}
 use Rattle.moves.proofs.Laws.{ends}
 use Rattle.moves.proofs.pairs.Goals as goal
 

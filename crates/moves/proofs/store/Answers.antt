@@ -1,5 +1,4 @@
 -- `moves::store` meets its contract. Assumes nothing.
-use borrow.Author.Rules.{rules}
 use Rattle.moves.proofs.Laws.{ends}
 use Rattle.moves.proofs.store.Goals as goal
 

@@ -1,13 +1,9 @@
 -- `numbers::number` meets its contract: the answer of the bytes that are left stays what it was at the start. Assumes nothing.
 use mathlib.Core.Bool.{not}
-use mathlib.Core.Path.{ap, ◌≡◌, sym, ◌∙◌}
-use Prim.Native.Nat.{◌-◌, ◌≤◌}
+use mathlib.Core.Path.{ap, sym, ◌∙◌}
 use native.Mathlib.Omega.{arith}
-use lib.Dec.{ltb}
-use lib.ListN.{length, drop}
 use borrow.Author.Rules.{rules}
 use borrow.Author.Tests.{not-true, not-false}
-use Rattle.numbers.specs.Reading.{number_from, number_at}
 use Rattle.numbers.proofs.Turns.{at_least, at_start, at_end, at_other, at-past, at-digit}
 use Rattle.numbers.proofs.number.Goals as goal
 
@@ -53,30 +49,3 @@ pub returns : goal.returns
 returns c =
     let t = c in
     c.ended-2.ensures ∙ sym (at_end _ _ _ _ _ t.loop-i-test.false) ∙ t.loop-i.invariant.1
-
-pub bounds-line-i : goal.bounds-line-i
-bounds-line-i = (search rules)
-
-pub is_digit-requires : goal.is_digit-requires
-is_digit-requires = (search rules)
-
-pub ended-requires : goal.ended-requires
-ended-requires = (search rules)
-
-pub with_digit-requires : goal.with_digit-requires
-with_digit-requires = (search rules)
-
-pub enum_known-more : goal.enum_known-more
-enum_known-more = (search rules)
-
-pub enum_told-1 : goal.enum_told-1
-enum_told-1 = (search rules)
-
-pub overflow_add-i : goal.overflow_add-i
-overflow_add-i = (search rules)
-
-pub loop-i-smaller : goal.loop-i-smaller
-loop-i-smaller = (search rules)
-
-pub ended-requires-2 : goal.ended-requires-2
-ended-requires-2 = (search rules)

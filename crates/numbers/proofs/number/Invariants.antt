@@ -1,13 +1,9 @@
 -- `numbers::number` meets its contract: the answer of the bytes that are left stays what it was at the start. Assumes nothing.
-use mathlib.Core.Path.{◌≡◌, sym, ◌∙◌}
+use mathlib.Core.Path.{◌≡◌}
 use Prim.Native.Nat.{◌-◌, ◌≤◌}
-use native.Mathlib.Omega.{arith}
 use lib.Dec.{ltb}
 use lib.ListN.{length, drop}
-use borrow.Author.Rules.{rules}
-use borrow.Author.Tests.{not-true, not-false}
 use Rattle.numbers.specs.Reading.{number_from, number_at}
-use Rattle.numbers.proofs.Turns.{at_least, at_start, at_end, at_other, at-past, at-digit}
 use Rattle.numbers.proofs.number.Given as goal
 
 abbrev pub invariant-loop-i : goal.invariant-loop-i

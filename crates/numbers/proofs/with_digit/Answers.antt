@@ -7,23 +7,11 @@ use Rattle.numbers.proofs.with_digit.Goals as goal
 pub returns-then-value : goal.returns-then-value
 returns-then-value c = is_past _ _ _ (omega arith)
 
-pub overflow_mul-tens : goal.overflow_mul-tens
-overflow_mul-tens = (search rules)
-
-pub overflow_sub-digit : goal.overflow_sub-digit
-overflow_sub-digit = (search rules)
-
 pub returns-then-digit-tens : goal.returns-then-digit-tens
 returns-then-digit-tens c = is_past _ _ _ (omega arith)
 
-pub overflow_add-tens : goal.overflow_add-tens
-overflow_add-tens = (search rules)
-
 pub returns-then-most-tens : goal.returns-then-most-tens
 returns-then-most-tens c = is_past _ _ _ (omega arith)
-
-pub overflow_add-result : goal.overflow_add-result
-overflow_add-result = (search rules)
 
 pub returns : goal.returns
 returns c = is_to _ _ _ (omega arith)

@@ -2,7 +2,6 @@
 use mathlib.Core.Path.{sym}
 use native.Mathlib.Nat.{le_of_lt}
 use lib.Seq.{take_all, length-take-le}
-use borrow.Author.Rules.{rules}
 use Rattle.printing.proofs.front.Goals as goal
 
 pub slice_bounds-result-end : goal.slice_bounds-result-end

@@ -1,5 +1,4 @@
 -- `printing::put_record` meets its contract. Assumes nothing.
-use borrow.Author.Rules.{rules}
 use Rattle.printing.specs.Printing.{record_text}
 use Rattle.printing.proofs.Putting.{line_of}
 use Rattle.printing.proofs.put_record.Goals as goal

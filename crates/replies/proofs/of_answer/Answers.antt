@@ -1,5 +1,4 @@
 -- `replies::of_answer` meets its contract. Assumes nothing.
-use borrow.Author.Rules.{rules}
 use Rattle.replies.proofs.of_answer.Goals as goal
 
 pub returns-in-Done : goal.returns-in-Done

@@ -1,5 +1,4 @@
 -- `replies::of_done` meets its contract. Assumes nothing.
-use borrow.Author.Rules.{rules}
 use Rattle.replies.proofs.of_done.Goals as goal
 
 pub returns-in-Nothing : goal.returns-in-Nothing

@@ -1,5 +1,4 @@
 -- `replies::of_refusal` meets its contract. Assumes nothing.
-use borrow.Author.Rules.{rules}
 use Rattle.replies.proofs.of_refusal.Goals as goal
 
 pub returns : goal.returns

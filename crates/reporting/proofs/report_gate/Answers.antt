@@ -1,6 +1,5 @@
 -- `reporting::report_gate` meets its contract. Assumes nothing.
 use Rattle.gates.proofs.Passing.{next}
-use borrow.Author.Rules.{rules}
 use Rattle.reporting.proofs.report_gate.Goals as goal
 
 pub returns : goal.returns

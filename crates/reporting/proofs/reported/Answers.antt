@@ -5,7 +5,6 @@ use Rattle.record.specs.Given.{effect_of}
 use Rattle.record.specs.declared.Outcome.{Outcome}
 use Rattle.record.specs.declared.Record.{Record}
 use Rattle.reporting.specs.Reporting.{reported}
-use borrow.Author.Rules.{rules}
 use Rattle.reporting.proofs.reported.Goals as goal
 
 abbrev of : Record → Told → Outcome → Told

@@ -2,7 +2,6 @@
 use mathlib.Core.Path.{refl}
 use Rattle.choice.specs.Pick.{◌and◌, ◌or◌}
 use Rattle.row_reading.specs.RowReading.{in_ranges}
-use borrow.Author.Rules.{rules}
 use Rattle.row_reading.proofs.in_ranges.Goals as goal
 
 pub returns : goal.returns

@@ -1,6 +1,5 @@
 -- `row_reading::record_of` meets its contract: a number whose test passed fits its field. Assumes nothing.
 use mathlib.Core.Path.{refl, ap}
-use borrow.Author.Rules.{rules}
 use borrow.Author.Tests.{eq-eqb}
 use native.Mathlib.Omega.{arith}
 use Rattle.choice.proofs.Picks.{yes, no, told}

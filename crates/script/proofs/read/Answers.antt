@@ -1,6 +1,5 @@
 -- `script::read` meets its contract. Assumes nothing.
 use mathlib.Core.Path.{refl, sym, ap, ◌∙◌}
-use borrow.Author.Rules.{rules}
 use borrow.Author.Tests.{eq-eqb, ne_eqb, lt-ltb, le-ltb, not-true, not-false}
 use Rattle.choice.proofs.Picks.{yes, no}
 use Rattle.text.specs.Writing.{bytes_of}

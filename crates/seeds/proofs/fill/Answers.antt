@@ -1,7 +1,6 @@
 -- `seeds::fill` meets its contract: to fill what is left stays what it was at the start. Assumes nothing.
-use Rattle.std.proofs.Common.{◌≡◌, ℕ, ◌+◌, ◌-◌, ◌%◌, ◌<◌, length, sym, ◌∙◌, arith, rules}
-use Rattle.seeds.specs.Seeds.{payload_over}
-use Rattle.seeds.proofs.Seeding.{seeded_from, seed_start, seed_next, seed_done, seed_end}
+use Rattle.std.proofs.Common.{◌≡◌, ℕ, ◌+◌, ◌%◌, ◌<◌, sym, ◌∙◌, arith, rules}
+use Rattle.seeds.proofs.Seeding.{seed_start, seed_next, seed_done, seed_end}
 use Rattle.seeds.proofs.fill.Goals as goal
 
 -- the byte after (s mod 251) is (s + 1) mod 251

@@ -1,7 +1,6 @@
 -- `seeds::fill_words` meets its contract: to fill what is left stays what it was at the start. Assumes nothing.
-use Rattle.std.proofs.Common.{◌≡◌, ◌-◌, ◌^◌, length, sym, ◌∙◌, arith, rules}
-use Rattle.seeds.specs.Seeds.{words_over}
-use Rattle.seeds.proofs.Seeding.{seeded_from, seed_start, seed_next, seed_done, seed_end}
+use Rattle.std.proofs.Common.{sym, ◌∙◌, rules}
+use Rattle.seeds.proofs.Seeding.{seed_start, seed_next, seed_done, seed_end}
 use Rattle.seeds.proofs.fill_words.Goals as goal
 
 pub loop-i-init : goal.loop-i-init

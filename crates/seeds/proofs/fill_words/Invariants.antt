@@ -1,7 +1,7 @@
 -- `seeds::fill_words` meets its contract: to fill what is left stays what it was at the start. Assumes nothing.
-use Rattle.std.proofs.Common.{◌≡◌, ◌-◌, ◌^◌, length, sym, ◌∙◌, arith, rules}
+use Rattle.std.proofs.Common.{◌≡◌, ◌-◌, ◌^◌, length}
 use Rattle.seeds.specs.Seeds.{words_over}
-use Rattle.seeds.proofs.Seeding.{seeded_from, seed_start, seed_next, seed_done, seed_end}
+use Rattle.seeds.proofs.Seeding.{seeded_from}
 use Rattle.seeds.proofs.fill_words.Given as goal
 
 abbrev pub invariant-loop-i : goal.invariant-loop-i

@@ -1,5 +1,5 @@
 -- `seeds::front` meets its contract. Assumes nothing.
-use Rattle.std.proofs.Common.{sym, refl, le_of_lt, length-take-le, take_all, rules}
+use Rattle.std.proofs.Common.{sym, le_of_lt, length-take-le, take_all}
 use Rattle.seeds.proofs.front.Goals as goal
 
 pub slice_bounds-result-end : goal.slice_bounds-result-end

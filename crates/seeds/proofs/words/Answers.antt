@@ -1,5 +1,5 @@
 -- `seeds::words` meets its contract: the front of what is filled. Assumes nothing.
-use Rattle.std.proofs.Common.{take, ap, ◌∙◌, rules}
+use Rattle.std.proofs.Common.{take, ap, ◌∙◌}
 use Rattle.seeds.proofs.words.Goals as goal
 
 pub returns : goal.returns

@@ -1,5 +1,4 @@
 -- `stamp_replies::of_check` meets its contract. Assumes nothing.
-use borrow.Author.Rules.{rules}
 use Rattle.stamp_replies.proofs.of_check.Goals as goal
 
 pub returns-in-Passes : goal.returns-in-Passes

@@ -1,5 +1,4 @@
 -- `stamp_replies::of_stamp` meets its contract. Assumes nothing.
-use borrow.Author.Rules.{rules}
 use Rattle.stamp_replies.proofs.of_stamp.Goals as goal
 
 pub returns-in-Taken : goal.returns-in-Taken

@@ -1,5 +1,4 @@
 -- `status::cancel` meets its contract, as `marks_of` does. Assumes nothing.
-use borrow.Author.Rules.{rules}
 use Rattle.status.proofs.cancel.Goals as goal
 
 pub returns : goal.returns

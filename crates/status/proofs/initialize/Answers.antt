@@ -1,5 +1,4 @@
 -- `status::initialize` meets its contract, as `marks_of` does. Assumes nothing.
-use borrow.Author.Rules.{rules}
 use Rattle.status.proofs.initialize.Goals as goal
 
 pub returns : goal.returns

@@ -1,5 +1,4 @@
 -- `status::link` meets its contract, as `marks_of` does. Assumes nothing.
-use borrow.Author.Rules.{rules}
 use Rattle.status.proofs.link.Goals as goal
 
 pub returns : goal.returns

@@ -2,7 +2,7 @@
 use Prim.Native.Nat.{ℕ, ◌<◌}
 use mathlib.Core.Path.{◌≡◌, refl, ap, ◌∙◌}
 use mathlib.Core.Bool.{Bool, false, not}
-use mathlib.Core.List.{List, []}
+use mathlib.Core.List.{List}
 use native.Mathlib.Omega.{arith}
 use lib.Dec.{eqb, leb, ltb}
 use lib.ListN.{get_or, set}
@@ -15,7 +15,6 @@ use Rattle.answers.specs.Answers.{said}
 use Rattle.status_bits.specs.Bits.{has}
 use Rattle.status.specs.Status.{leaves_marks, most_ids, other_lengths, outside, bytes_sound, entry_of, put, marking}
 use Rattle.status.specs.Status.Entry.{At}
-use borrow.Author.Rules.{rules}
 use Rattle.status.proofs.marks_of.Goals as goal
 
 -- an id that is not refused is an index of both

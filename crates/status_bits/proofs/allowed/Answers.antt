@@ -1,6 +1,5 @@
 -- `status_bits::allowed` meets its contract: the code is the definition. Assumes nothing.
 use Rattle.choice.specs.Pick.{◌and◌}
-use borrow.Author.Rules.{rules}
 use Rattle.status_bits.proofs.allowed.Goals as goal
 
 pub returns-in-Link : goal.returns-in-Link

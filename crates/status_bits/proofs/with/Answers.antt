@@ -3,7 +3,6 @@ use mathlib.Core.Path.{refl}
 use native.Mathlib.Omega.{arith}
 use Rattle.choice.proofs.Picks.{yes, no, told}
 use Rattle.status_bits.specs.Bits.{with}
-use borrow.Author.Rules.{rules}
 use Rattle.status_bits.proofs.with.Goals as goal
 
 pub overflow_add-result : goal.overflow_add-result

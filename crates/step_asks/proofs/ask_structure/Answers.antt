@@ -4,7 +4,6 @@ use Rattle.choice.specs.Pick.{◌or◌}
 use Rattle.choice.proofs.Picks.{yes, no}
 use Rattle.gates.proofs.Passing.{next, barred_out, let_in}
 use Rattle.step_asks.specs.Asks.{ask_structure_bars, ask_structure_own}
-use borrow.Author.Rules.{rules}
 use Rattle.step_asks.proofs.ask_structure.Goals as goal
 
 pub returns-in-Shut : goal.returns-in-Shut

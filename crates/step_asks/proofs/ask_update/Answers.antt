@@ -9,7 +9,6 @@ use Rattle.answers.specs.declared.Answer.TheVariants.{Finished}
 use Rattle.gates.proofs.Passing.{next, barred_out, let_in, clear}
 use Rattle.gates.proofs.Behind.{counts_behind}
 use Rattle.step_asks.specs.Asks.{ask_update_bars, ask_update_own}
-use borrow.Author.Rules.{rules}
 use Rattle.step_asks.proofs.ask_update.Goals as goal
 
 pub returns-in-Shut : goal.returns-in-Shut

@@ -8,7 +8,6 @@ use Rattle.answers.specs.declared.Was.TheVariants.{Nothing}
 use Rattle.answers.specs.declared.Refusal.TheVariants.{TooMany}
 use Rattle.gates.proofs.Passing.{barred_out, let_in, clear, fails}
 use Rattle.step_begins.specs.Beginning.{begun, begin_bars, begin_own}
-use borrow.Author.Rules.{rules}
 use Rattle.step_begins.proofs.begin.Goals as goal
 
 pub returns-in-Shut : goal.returns-in-Shut

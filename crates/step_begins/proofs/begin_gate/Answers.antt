@@ -1,9 +1,7 @@
 -- `step_begins::begin_gate` meets its contract. Assumes nothing.
-use mathlib.Core.List.{[]}
 use Rattle.choice.specs.Pick.{◌or◌}
 use Rattle.gates.specs.Gates.{long_payloads}
 use Rattle.gates.proofs.Passing.{next, next_row}
-use borrow.Author.Rules.{rules}
 use Rattle.step_begins.proofs.begin_gate.Goals as goal
 
 pub returns : goal.returns

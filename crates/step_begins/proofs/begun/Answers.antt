@@ -1,6 +1,5 @@
 -- `step_begins::begun` meets its contract. Assumes nothing.
 use Rattle.step_begins.specs.Beginning.{begun}
-use borrow.Author.Rules.{rules}
 use Rattle.step_begins.proofs.begun.Goals as goal
 
 pub returns : goal.returns

@@ -1,7 +1,6 @@
 -- `step_begins::edit` meets its contract. Assumes nothing.
 use Rattle.gates.proofs.Passing.{barred_out, let_in}
 use Rattle.step_begins.specs.Beginning.{edit_bars, edit_own}
-use borrow.Author.Rules.{rules}
 use Rattle.step_begins.proofs.edit.Goals as goal
 
 pub returns-in-Shut : goal.returns-in-Shut

@@ -12,7 +12,6 @@ use Rattle.gates.specs.declared.Gate.TheVariants.{Open}
 use Rattle.gates.proofs.Passing.{barred_out, let_in}
 use Rattle.gates.proofs.Behind.{room_behind}
 use Rattle.step_ends.specs.Ending.{commit_bars, commit_own}
-use borrow.Author.Rules.{rules}
 use Rattle.step_ends.proofs.commit.Goals as goal
 
 pub returns-in-Shut : goal.returns-in-Shut

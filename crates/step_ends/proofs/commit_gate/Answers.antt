@@ -1,7 +1,6 @@
 -- `step_ends::commit_gate` meets its contract. Assumes nothing.
 use Rattle.choice.specs.Pick.{◌or◌}
 use Rattle.gates.proofs.Passing.{next}
-use borrow.Author.Rules.{rules}
 use Rattle.step_ends.proofs.commit_gate.Goals as goal
 
 pub returns : goal.returns

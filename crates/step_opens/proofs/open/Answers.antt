@@ -1,5 +1,4 @@
 -- `step_opens::open` meets its contract. Assumes nothing.
-use mathlib.Core.List.{[]}
 use mathlib.Core.Path.{◌∙◌, ap}
 use Rattle.record.specs.Answers.{answer, refuse}
 use Rattle.answers.specs.declared.Answer.TheVariants.{Done}
@@ -8,7 +7,6 @@ use Rattle.gates.specs.Gates.{long_snapshot, gated}
 use Rattle.gates.specs.declared.Gate.TheVariants.{Open}
 use Rattle.gates.proofs.Passing.{next_row, barred_out, let_in}
 use Rattle.step_opens.specs.Opening.{unopened, open_bars, open_step}
-use borrow.Author.Rules.{rules}
 use Rattle.step_opens.proofs.open.Goals as goal
 
 pub returns-in-Shut : goal.returns-in-Shut

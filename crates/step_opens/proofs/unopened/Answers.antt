@@ -1,5 +1,4 @@
 -- `step_opens::unopened` meets its contract. Assumes nothing.
-use borrow.Author.Rules.{rules}
 use Rattle.step_opens.proofs.unopened.Goals as goal
 
 pub returns : goal.returns

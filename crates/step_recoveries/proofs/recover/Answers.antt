@@ -1,12 +1,10 @@
 -- `step_recoveries::recover` meets its contract: the gate of both recoveries, with the length behind it; a staged record's
 -- count can be raised. Assumes nothing.
-use mathlib.Core.List.{[]}
 use borrow.Author.Tests.{not-false}
 use Rattle.gates.specs.Gates.{long_snapshot}
 use Rattle.gates.proofs.Passing.{next_row, handed}
 use Rattle.gates.proofs.Behind.{room_behind}
 use Rattle.step_recoveries.specs.Recovering.{recover_bars, recover_own}
-use borrow.Author.Rules.{rules}
 use Rattle.step_recoveries.proofs.recover.Goals as goal
 
 pub recovered-requires : goal.recovered-requires

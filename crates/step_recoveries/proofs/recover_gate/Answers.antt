@@ -1,6 +1,5 @@
 -- `step_recoveries::recover_gate` meets its contract. Assumes nothing.
 use Rattle.gates.proofs.Passing.{next}
-use borrow.Author.Rules.{rules}
 use Rattle.step_recoveries.proofs.recover_gate.Goals as goal
 
 pub returns : goal.returns

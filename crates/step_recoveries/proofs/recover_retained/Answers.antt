@@ -1,11 +1,9 @@
 -- `step_recoveries::recover_retained` meets its contract: the gate of both recoveries; a staged record's count can be raised. Assumes
 -- nothing.
-use mathlib.Core.List.{[]}
 use borrow.Author.Tests.{not-false}
 use Rattle.gates.proofs.Passing.{handed}
 use Rattle.gates.proofs.Behind.{room_behind}
 use Rattle.step_recoveries.specs.Recovering.{recover_bars, recover_retained_own}
-use borrow.Author.Rules.{rules}
 use Rattle.step_recoveries.proofs.recover_retained.Goals as goal
 
 pub recovered-requires : goal.recovered-requires

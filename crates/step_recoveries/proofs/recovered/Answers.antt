@@ -2,7 +2,6 @@
 use mathlib.Core.Path.{refl}
 use native.Mathlib.Omega.{arith}
 use Rattle.gates.proofs.Passing.{shut, opened}
-use borrow.Author.Rules.{rules}
 use Rattle.step_recoveries.proofs.recovered.Goals as goal
 
 pub returns-in-Shut : goal.returns-in-Shut

@@ -15,7 +15,6 @@ use Rattle.tickets.specs.declared.Live.TheVariants.{None, Rollback}
 use Rattle.gates.proofs.Passing.{shut, opened}
 use Rattle.issuing.specs.Issuing.{issued}
 use Rattle.step_rollbacks.specs.Rollbacks.{ask_rollback_own, turned}
-use borrow.Author.Rules.{rules}
 use Rattle.step_rollbacks.proofs.ask_rollback.Goals as goal
 
 right : (a b : Bool) → a and b ≡ false → a ≡ true → b ≡ false

@@ -4,7 +4,6 @@ use mathlib.Core.Path.{ap, refl}
 use Rattle.choice.specs.Pick.{◌and◌}
 use Rattle.choice.proofs.Picks.{yes, no, told_not}
 use Rattle.step_stamps.specs.Stamping.{passes, check_step}
-use borrow.Author.Rules.{rules}
 use Rattle.step_stamps.proofs.check.Goals as goal
 
 pub returns-then-not-whole : goal.returns-then-not-whole

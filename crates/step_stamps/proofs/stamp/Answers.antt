@@ -3,7 +3,6 @@ use mathlib.Core.Bool.{not}
 use mathlib.Core.Path.{ap, refl}
 use Rattle.choice.proofs.Picks.{yes, no, told_not}
 use Rattle.step_stamps.specs.Stamping.{stamp_step}
-use borrow.Author.Rules.{rules}
 use Rattle.step_stamps.proofs.stamp.Goals as goal
 
 pub returns-then-not-whole : goal.returns-then-not-whole

@@ -9,7 +9,6 @@ use Rattle.phases.specs.declared.Next.{Next}
 use Rattle.record.specs.Fields.{with_place}
 use Rattle.record.specs.declared.Record.{Record}
 use Rattle.step_structure.specs.Structure.{onward, advanced}
-use borrow.Author.Rules.{rules}
 use Rattle.step_structure.proofs.advanced.Goals as goal
 
 -- the record, by the test of its phase

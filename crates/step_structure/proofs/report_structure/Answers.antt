@@ -1,11 +1,9 @@
 -- `step_structure::report_structure` meets its contract. Assumes nothing.
-use mathlib.Core.List.{[]}
 use Rattle.record.specs.Given.{effect_of}
 use Rattle.gates.specs.Gates.{long_payloads}
 use Rattle.gates.proofs.Passing.{next_row, barred_out, let_in}
 use Rattle.step_structure.specs.Structure.{structure_done, report_structure_bars, report_structure_own}
 use Rattle.reporting.proofs.Taken.{structure_room, taking}
-use borrow.Author.Rules.{rules}
 use Rattle.step_structure.proofs.report_structure.Goals as goal
 
 pub returns-in-Shut : goal.returns-in-Shut

@@ -7,7 +7,6 @@ use Rattle.record.specs.Answers.{answer}
 use Rattle.record.specs.declared.Record.{Record}
 use Rattle.answers.specs.declared.Answer.TheVariants.{More, Finished}
 use Rattle.step_structure.specs.Structure.{structure_done}
-use borrow.Author.Rules.{rules}
 use Rattle.step_structure.proofs.structure_done.Goals as goal
 
 abbrev at_boundary : Record → Bool

@@ -3,7 +3,6 @@ use Rattle.record.specs.Given.{effect_of}
 use Rattle.gates.proofs.Passing.{barred_out, let_in}
 use Rattle.step_undos.specs.Undos.{rollback_done, report_rollback_bars, report_rollback_own}
 use Rattle.reporting.proofs.Taken.{rollback_room, taking}
-use borrow.Author.Rules.{rules}
 use Rattle.step_undos.proofs.report_rollback.Goals as goal
 
 pub returns-in-Shut : goal.returns-in-Shut

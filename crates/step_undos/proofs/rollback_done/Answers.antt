@@ -8,7 +8,6 @@ use Rattle.record.specs.Answers.{answer}
 use Rattle.record.specs.declared.Record.{Record}
 use Rattle.answers.specs.declared.Answer.TheVariants.{More, Finished}
 use Rattle.step_undos.specs.Undos.{leaving, rollback_done}
-use borrow.Author.Rules.{rules}
 use Rattle.step_undos.proofs.rollback_done.Goals as goal
 
 -- the action taken off, with a left applied

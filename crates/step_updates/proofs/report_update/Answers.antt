@@ -3,7 +3,6 @@ use Rattle.record.specs.Given.{effect_of}
 use Rattle.gates.proofs.Passing.{barred_out, let_in}
 use Rattle.step_updates.specs.Updates.{update_done, report_update_bars, report_update_own}
 use Rattle.reporting.proofs.Taken.{update_room, taking}
-use borrow.Author.Rules.{rules}
 use Rattle.step_updates.proofs.report_update.Goals as goal
 
 pub returns-in-Shut : goal.returns-in-Shut

@@ -5,7 +5,6 @@ use borrow.Author.Tests.{eq-eqb, ne_eqb}
 use Rattle.record.specs.Answers.{answer}
 use Rattle.answers.specs.declared.Answer.TheVariants.{Finished}
 use Rattle.step_updates.specs.Updates.{update_done}
-use borrow.Author.Rules.{rules}
 use Rattle.step_updates.proofs.update_done.Goals as goal
 
 pub returns-then-r : goal.returns-then-r

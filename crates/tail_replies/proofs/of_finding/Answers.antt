@@ -1,5 +1,4 @@
 -- `tail_replies::of_finding` meets its contract. Assumes nothing.
-use borrow.Author.Rules.{rules}
 use Rattle.tail_replies.proofs.of_finding.Goals as goal
 
 pub returns-in-Same : goal.returns-in-Same

@@ -1,5 +1,4 @@
 -- `tail_replies::of_verdict` meets its contract. Assumes nothing.
-use borrow.Author.Rules.{rules}
 use Rattle.tail_replies.proofs.of_verdict.Goals as goal
 
 pub returns-in-Done : goal.returns-in-Done

@@ -1,11 +1,9 @@
 -- `tail_table::add_by` meets its contract. Assumes nothing.
 use mathlib.Core.Path.{◌∙◌, ap}
-use mathlib.Core.List.{[]}
 use Rattle.tail_answers.specs.TailAnswers.{barred}
 use Rattle.tail_answers.specs.declared.TailRefusal.TheVariants.{Present}
 use Rattle.tail_answers.specs.declared.Verdict.{Verdict}
 use Rattle.tail_answers.proofs.Rows.{two_more}
-use borrow.Author.Rules.{rules}
 use Rattle.tail_table.specs.Sweeping.{by_table}
 use Rattle.tail_table.proofs.add_by.Goals as goal
 

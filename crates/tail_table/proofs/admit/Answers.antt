@@ -1,7 +1,6 @@
 -- `tail_table::admit` meets its contract. Assumes nothing.
 use Rattle.choice.specs.Pick.{◌or◌}
 use Rattle.tail_answers.proofs.Rows.{two_alone}
-use borrow.Author.Rules.{rules}
 use Rattle.tail_table.proofs.admit.Goals as goal
 
 pub returns : goal.returns

@@ -1,6 +1,5 @@
 -- `tail_table::admit_claim` meets its contract: a return for each answer of the transaction's check. Assumes nothing.
 use Rattle.tail_table.proofs.Claims.{passed, failed, turned_away_lem}
-use borrow.Author.Rules.{rules}
 use Rattle.tail_table.proofs.admit_claim.Goals as goal
 
 pub returns-in-Passes : goal.returns-in-Passes

@@ -8,7 +8,6 @@ use Rattle.tail_answers.specs.declared.TailRefusal.{TailRefusal}
 use Rattle.tail_answers.specs.declared.Finding.{Finding}
 use Rattle.tail_answers.specs.declared.Finding.TheVariants as F
 use Rattle.tail_table.specs.TailCalls.{found}
-use borrow.Author.Rules.{rules}
 use Rattle.tail_table.proofs.find_by.Goals as goal
 
 -- a verdict v, which is the definition's d, was found to refuse, or to let through

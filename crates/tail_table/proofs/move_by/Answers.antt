@@ -1,12 +1,10 @@
 -- `tail_table::move_by` meets its contract. Assumes nothing.
 use mathlib.Core.Path.{◌∙◌, ap}
 use mathlib.Core.Bool.{not}
-use mathlib.Core.List.{[]}
 use Rattle.tail_answers.specs.TailAnswers.{barred}
 use Rattle.tail_answers.specs.declared.TailRefusal.TheVariants.{Absent}
 use Rattle.tail_answers.specs.declared.Verdict.{Verdict}
 use Rattle.tail_answers.proofs.Rows.{two_more}
-use borrow.Author.Rules.{rules}
 use Rattle.tail_table.specs.Sweeping.{by_stamp}
 use Rattle.tail_table.proofs.move_by.Goals as goal
 

@@ -8,7 +8,6 @@ use Rattle.tail_table.specs.TailCalls.{add_row}
 use Rattle.tail_sweeps.proofs.Words.{records}
 use Rattle.tails.proofs.Settling.{refused_so, done_so}
 use Rattle.tails.proofs.Adding.{adding, addable}
-use borrow.Author.Rules.{rules}
 use Rattle.tails.proofs.add.Goals as goal
 
 pub returns-in-Refused : goal.returns-in-Refused

@@ -5,7 +5,6 @@ use Rattle.tail_table.specs.Sweeping.{find_by, room_of}
 use Rattle.tail_table.specs.declared.Room.{Room}
 use Rattle.tail_table.specs.declared.Sweep.{Sweep}
 use Rattle.tail_sweeps.proofs.Deciding.{find_so}
-use borrow.Author.Rules.{rules}
 use Rattle.tails.proofs.find.Goals as goal
 
 pub returns : goal.returns

@@ -7,7 +7,6 @@ use Rattle.tail_sweeps.proofs.Moving.{movable}
 use Rattle.tail_sweeps.proofs.Deciding.{place_so}
 use Rattle.tails.proofs.Settling.{refused_so, done_so}
 use Rattle.tails.proofs.Advancing.{moving_by, in_words, advanced}
-use borrow.Author.Rules.{rules}
 use Rattle.tails.proofs.move_offset.Goals as goal
 
 pub returns-in-Refused : goal.returns-in-Refused

@@ -1,28 +1,19 @@
 -- `tails::place_of` meets its contract: the records below i stand before the file. Assumes nothing.
-use Prim.Native.Nat.{◌-◌, ◌≤◌}
 use mathlib.Core.Path.{◌≡◌, refl, sym, ◌∙◌, ap}
 use mathlib.Core.Bool.{not, true}
 use native.Mathlib.Omega.{arith}
 use mathlib.Core.List.{List}
-use lib.ListN.{take}
 use lib.Seq.{length-take-le, take_all}
 use borrow.Author.Tests.{not-true, not-false}
 use Rattle.tail_table.specs.Table.{tails_of, used_of}
 use Rattle.tail_table.specs.Sweeping.{ahead}
 use Rattle.tail_table.specs.declared.Tail.{Tail}
-use Rattle.tail_sweeps.proofs.Words.{records}
 use Rattle.tail_sweeps.proofs.Places.{ahead_more, place_here, place_end, read_so}
 use borrow.Author.Rules.{rules}
 use Rattle.tails.proofs.place_of.Goals as goal
 
 pub loop-i-init : goal.loop-i-init
 loop-i-init c = (omega arith, refl)
-
-pub file-this-requires : goal.file-this-requires
-file-this-requires c = search rules
-
-pub before-requires : goal.before-requires
-before-requires c = search rules
 
 pub returns-then-not-before : goal.returns-then-not-before
 returns-then-not-before c =
@@ -32,9 +23,6 @@ returns-then-not-before c =
     let u = length-take-le a.used (tails_of a.words.now) l.requires in
     let e = read_so a.file a.words.now a.used l.loop-i.i (omega arith) b.tail_at.ensures b.file-this.ensures b.before-in-loop-i.ensures in
     sym (place_here a.file (used_of a.words.now a.used) l.loop-i.i (omega (arith, u)) l.loop-i.invariant.1 (e ∙ not-true _ (ap not c.if-not-before.true)))
-
-pub overflow_add-i : goal.overflow_add-i
-overflow_add-i c = search rules
 
 pub loop-i-smaller : goal.loop-i-smaller
 loop-i-smaller c = omega arith

@@ -1,11 +1,10 @@
 -- `tails::put_in` meets its contract: each turn puts down the record in hand and takes up the one that stood there. Assumes nothing.
-use Prim.Native.Nat.{◌-◌}
 use mathlib.Core.Path.{◌∙◌, ap}
 use native.Mathlib.Omega.{arith}
 use Rattle.tail_table.specs.Table.{used_of}
 use Rattle.tail_table.specs.Sweeping.{place_of}
 use Rattle.tail_sweeps.proofs.Words.{put_so}
-use Rattle.tail_sweeps.proofs.Entering.{Entering, enter_from, enter-more, enter-all, enter-long}
+use Rattle.tail_sweeps.proofs.Entering.{enter_from, enter-more, enter-all, enter-long}
 use borrow.Author.Rules.{rules}
 use Rattle.tails.proofs.put_in.Goals as goal
 
@@ -18,9 +17,6 @@ loop-i-init c =
     let a = s.args in
     let p = c.place_of-i.ensures ∙ ap (place_of (used_of a.words.now a.used)) c.file.ensures in
     enter_from a.words.now c.place_of-i.result a.used a.t s.requires.1 p s.requires.0
-
-pub overflow_add-i : goal.overflow_add-i
-overflow_add-i c = search rules
 
 pub loop-i-smaller : goal.loop-i-smaller
 loop-i-smaller c = omega arith

@@ -1,12 +1,6 @@
 -- `tails::put_in` meets its contract: each turn puts down the record in hand and takes up the one that stood there. Assumes nothing.
 use Prim.Native.Nat.{◌-◌}
-use mathlib.Core.Path.{◌∙◌, ap}
-use native.Mathlib.Omega.{arith}
-use Rattle.tail_table.specs.Table.{used_of}
-use Rattle.tail_table.specs.Sweeping.{place_of}
-use Rattle.tail_sweeps.proofs.Words.{put_so}
-use Rattle.tail_sweeps.proofs.Entering.{Entering, enter_from, enter-more, enter-all, enter-long}
-use borrow.Author.Rules.{rules}
+use Rattle.tail_sweeps.proofs.Entering.{Entering}
 use Rattle.tails.proofs.put_in.Given as goal
 
 abbrev pub invariant-loop-i : goal.invariant-loop-i

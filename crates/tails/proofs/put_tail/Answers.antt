@@ -3,7 +3,6 @@ use Prim.Native.Nat.{◌+◌, ◌*◌}
 use native.Mathlib.Omega.{arith}
 use lib.ListN.{set, length-set}
 use Rattle.tail_sweeps.proofs.Words.{put_no_records, put_past, put_in_place}
-use borrow.Author.Rules.{rules}
 use Rattle.tails.proofs.put_tail.Goals as goal
 
 pub returns-then-words-ne0 : goal.returns-then-words-ne0

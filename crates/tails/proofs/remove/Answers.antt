@@ -1,6 +1,6 @@
 -- `tails::remove` meets its contract. Assumes nothing.
 use mathlib.Core.Path.{refl, sym, ◌∙◌}
-use mathlib.Core.List.{[], ◌∷◌, ◌++◌}
+use mathlib.Core.List.{◌∷◌, ◌++◌}
 use native.Mathlib.Omega.{arith}
 use Prim.Native.Nat.{◌-◌}
 use Rattle.tail_answers.specs.TailAnswers.{verdict}
@@ -9,7 +9,6 @@ use Rattle.tail_table.specs.TailCalls.{remove_row}
 use Rattle.tail_sweeps.proofs.Deciding.{place_so}
 use Rattle.tails.proofs.Settling.{refused_so, done_so}
 use Rattle.tails.proofs.Removing.{removing, removable, in_use, removed_so}
-use borrow.Author.Rules.{rules}
 use Rattle.tails.proofs.remove.Goals as goal
 
 pub returns-in-Refused : goal.returns-in-Refused

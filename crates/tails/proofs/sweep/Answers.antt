@@ -1,7 +1,6 @@
 -- `tails::sweep` meets its contract: after i records the sweep is that of the first i. Assumes nothing.
-use Prim.Native.Nat.{ℕ, ◌-◌, ◌≤◌, ◌/◌}
+use Prim.Native.Nat.{ℕ, ◌≤◌, ◌/◌}
 use mathlib.Core.Path.{◌≡◌, sym, ◌∙◌, ap, subst}
-use mathlib.Core.List.{[]}
 use native.Mathlib.Omega.{arith}
 use lib.ListN.{length, take}
 use Rattle.tail_table.specs.Table.{tails_of}
@@ -15,15 +14,6 @@ use Rattle.tail_sweeps.proofs.Deciding.{reach_within}
 use borrow.Author.Rules.{rules}
 use Rattle.tails.proofs.sweep.Goals as goal
 
-pub of_words-requires : goal.of_words-requires
-of_words-requires c = search rules
-
-pub reach-n-requires : goal.reach-n-requires
-reach-n-requires c = search rules
-
-pub start-s-requires : goal.start-s-requires
-start-s-requires c = search rules
-
 pub loop-i-init : goal.loop-i-init
 loop-i-init c =
     let b = c in
@@ -31,15 +21,6 @@ loop-i-init c =
     let e = b.reach-n.ensures ∙ ap (λ (r : Room). reach_of r a.used) b.of_words.ensures in
     let w = reach_within (length a.words.now) a.used in
     (omega arith, (subst (λ (k : ℕ). k ≤ length a.words.now / 3) (sym e) w, c.start-s.ensures ∙ ap (swept []) (sym (ap (λ (s : Sweep). s.file) c.start-s.ensures))))
-
-pub overflow_add-i : goal.overflow_add-i
-overflow_add-i c = search rules
-
-pub step-s-requires : goal.step-s-requires
-step-s-requires c = search rules
-
-pub loop-i-smaller : goal.loop-i-smaller
-loop-i-smaller c = search rules
 
 pub loop-i-preserved : goal.loop-i-preserved
 loop-i-preserved c =

@@ -1,18 +1,9 @@
 -- `tails::sweep` meets its contract: after i records the sweep is that of the first i. Assumes nothing.
-use Prim.Native.Nat.{ℕ, ◌-◌, ◌≤◌, ◌/◌}
-use mathlib.Core.Path.{◌≡◌, sym, ◌∙◌, ap, subst}
-use mathlib.Core.List.{[]}
-use native.Mathlib.Omega.{arith}
+use Prim.Native.Nat.{◌-◌, ◌≤◌, ◌/◌}
+use mathlib.Core.Path.{◌≡◌}
 use lib.ListN.{length, take}
 use Rattle.tail_table.specs.Table.{tails_of}
-use Rattle.tail_table.specs.Sweeping.{reach_of, swept}
-use Rattle.tail_table.specs.declared.File.{File}
-use Rattle.tail_table.specs.declared.Room.{Room}
-use Rattle.tail_table.specs.declared.Sweep.{Sweep}
-use Rattle.tail_sweeps.proofs.Words.{records}
-use Rattle.tail_sweeps.proofs.Sweeps.{swept_on_lem}
-use Rattle.tail_sweeps.proofs.Deciding.{reach_within}
-use borrow.Author.Rules.{rules}
+use Rattle.tail_table.specs.Sweeping.{swept}
 use Rattle.tails.proofs.sweep.Given as goal
 
 abbrev pub invariant-loop-i : goal.invariant-loop-i

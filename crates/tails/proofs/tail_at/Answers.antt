@@ -1,7 +1,6 @@
 -- `tails::tail_at` meets its contract. Assumes nothing.
 use native.Mathlib.Omega.{arith}
 use Rattle.tail_sweeps.proofs.Words.{tail_there, none_there}
-use borrow.Author.Rules.{rules}
 use Rattle.tails.proofs.tail_at.Goals as goal
 
 pub returns-then-words-i : goal.returns-then-words-i

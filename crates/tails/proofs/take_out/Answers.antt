@@ -5,7 +5,7 @@ use native.Mathlib.Omega.{arith}
 use lib.ListN.{set}
 use Rattle.tail_table.specs.Table.{tails_of, words_of, zeroes}
 use Rattle.tail_sweeps.proofs.Words.{put_so}
-use Rattle.tail_sweeps.proofs.Leaving.{Leaving, leave_from, leave-more, leave-all, leave-long}
+use Rattle.tail_sweeps.proofs.Leaving.{leave_from, leave-more, leave-all, leave-long}
 use borrow.Author.Rules.{rules}
 use Rattle.tails.proofs.take_out.Goals as goal
 
@@ -14,12 +14,6 @@ overflow_sub-last c = let r = c.requires in omega (arith, r)
 
 pub loop-i-init : goal.loop-i-init
 loop-i-init c = let a = c.args in let r = c.requires in leave_from a.words.now a.place a.used r.1.0 r.1.1 r.0
-
-pub overflow_add-i : goal.overflow_add-i
-overflow_add-i c = search rules
-
-pub overflow_add-i-in-loop-i : goal.overflow_add-i-in-loop-i
-overflow_add-i-in-loop-i c = search rules
 
 pub loop-i-smaller : goal.loop-i-smaller
 loop-i-smaller c = omega arith

@@ -1,11 +1,7 @@
 -- `templates::first_fitting` meets its contract: the first that fits of those left stays what it was at the start. Assumes nothing.
-use mathlib.Core.Path.{◌≡◌, refl, sym, ap, ◌∙◌}
-use Prim.Native.Nat.{◌-◌}
+use mathlib.Core.Path.{◌≡◌, sym, ap, ◌∙◌}
 use mathlib.Core.Bool.{false}
 use native.Mathlib.Omega.{arith}
-use lib.ListN.{length, drop}
-use borrow.Author.Rules.{rules}
-use Rattle.templates.specs.Finding.{first_from, first_fitting}
 use Rattle.matching.specs.declared.Fitted.{Fitted}
 use Rattle.templates.proofs.Passing.{first_end, first-yes, first-no}
 use Rattle.templates.proofs.first_fitting.Goals as goal

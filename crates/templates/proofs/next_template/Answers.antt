@@ -1,9 +1,6 @@
 -- `templates::next_template` meets its contract: what is left after the next newline stays what it was at the start. Assumes nothing.
-use mathlib.Core.Path.{◌≡◌, refl, ◌∙◌}
-use Prim.Native.Nat.{◌≤◌, ◌-◌}
-use lib.ListN.{length, drop}
+use mathlib.Core.Path.{refl, ◌∙◌}
 use borrow.Author.Rules.{rules}
-use Rattle.templates.specs.Finding.{after_line}
 use Rattle.templates.proofs.Passing.{after_end, after-newline, after-other}
 use Rattle.templates.proofs.next_template.Goals as goal
 

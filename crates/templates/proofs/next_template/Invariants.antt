@@ -1,10 +1,8 @@
 -- `templates::next_template` meets its contract: what is left after the next newline stays what it was at the start. Assumes nothing.
-use mathlib.Core.Path.{◌≡◌, refl, ◌∙◌}
+use mathlib.Core.Path.{◌≡◌}
 use Prim.Native.Nat.{◌≤◌, ◌-◌}
 use lib.ListN.{length, drop}
-use borrow.Author.Rules.{rules}
 use Rattle.templates.specs.Finding.{after_line}
-use Rattle.templates.proofs.Passing.{after_end, after-newline, after-other}
 use Rattle.templates.proofs.next_template.Given as goal
 
 abbrev pub invariant-loop-i : goal.invariant-loop-i

@@ -1,8 +1,7 @@
 -- `text::front` meets its contract. Assumes nothing.
-use mathlib.Core.Path.{refl, sym}
+use mathlib.Core.Path.{sym}
 use native.Mathlib.Nat.{le_of_lt}
 use lib.Seq.{take_all, length-take-le}
-use borrow.Author.Rules.{rules}
 use Rattle.text.proofs.front.Goals as goal
 
 pub slice_bounds-result-end : goal.slice_bounds-result-end

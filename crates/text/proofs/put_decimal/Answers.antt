@@ -1,7 +1,6 @@
 -- `text::put_decimal` meets its contract: what `io::decimal` puts is the decimal text. Assumes nothing.
 use mathlib.Core.Path.{ap, ◌∙◌}
 use native.Mathlib.Omega.{arith}
-use borrow.Author.Rules.{rules}
 use Rattle.text.specs.Writing.{put_all}
 use Rattle.text.proofs.Decimal.{few, decimal_text}
 use Rattle.text.proofs.put_decimal.Goals as goal

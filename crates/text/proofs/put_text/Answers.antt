@@ -1,10 +1,7 @@
 -- `text::put_text` meets its contract: to put the bytes that are left stays what it was at the start. Assumes nothing.
-use mathlib.Core.Path.{◌≡◌, refl, sym, ap, ◌∙◌}
-use Prim.Native.Nat.{ℕ, ◌-◌, ◌≤◌}
+use mathlib.Core.Path.{refl, sym, ◌∙◌}
 use native.Mathlib.Omega.{arith}
-use lib.ListN.{length, drop}
 use borrow.Author.Rules.{rules}
-use Rattle.text.specs.Writing.{page, put_all}
 use Rattle.text.proofs.Putting.{put_next, put_end}
 use Rattle.text.proofs.put_text.Goals as goal
 
@@ -22,9 +19,6 @@ loop-i-init c = (refl, refl)
 
 pub bounds-text-i : goal.bounds-text-i
 bounds-text-i c = omega arith
-
-pub put_byte-at-requires : goal.put_byte-at-requires
-put_byte-at-requires c = tt
 
 pub overflow_add-i : goal.overflow_add-i
 overflow_add-i c = omega arith

@@ -2,7 +2,6 @@
 use mathlib.Core.Path.{refl}
 use Rattle.choice.specs.Pick.{◌and◌}
 use Rattle.wholeness.specs.Whole.{counts_fit}
-use borrow.Author.Rules.{rules}
 use Rattle.wholeness.proofs.counts_fit.Goals as goal
 
 pub returns : goal.returns

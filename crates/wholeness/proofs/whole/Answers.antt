@@ -1,7 +1,6 @@
 -- `wholeness::whole` meets its contract: each part is its definition. Assumes nothing.
 use Rattle.choice.specs.Pick.{◌and◌}
 use Rattle.wholeness.specs.Whole.{whole}
-use borrow.Author.Rules.{rules}
 use Rattle.wholeness.proofs.whole.Goals as goal
 
 pub returns : goal.returns

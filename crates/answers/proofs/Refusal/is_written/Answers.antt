@@ -1,5 +1,4 @@
 -- `answers::Refusal::is_written` meets its contract: the refusals 4 and 5, by name. Assumes nothing.
-use Rattle.std.proofs.Common.{rules}
 use Rattle.choice.specs.Pick.{◌or◌}
 use Rattle.answers.specs.Classes.{refusal_written}
 use Rattle.answers.proofs.Refusal.is_written.Goals as goal

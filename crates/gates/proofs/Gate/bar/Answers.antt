@@ -1,7 +1,6 @@
 -- `gates::Gate::bar` meets its contract. Assumes nothing.
 use Rattle.choice.specs.Pick.{pick}
 use Rattle.gates.specs.Gates.{barred}
-use borrow.Author.Rules.{rules}
 use Rattle.gates.proofs.Gate.bar.Goals as goal
 
 pub returns-in-Shut : goal.returns-in-Shut

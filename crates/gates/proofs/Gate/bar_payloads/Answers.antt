@@ -1,6 +1,5 @@
 -- `gates::Gate::bar_payloads` meets its contract. Assumes nothing.
 use Rattle.areas.specs.Areas.{long}
-use borrow.Author.Rules.{rules}
 use Rattle.gates.proofs.Passing.{next}
 use Rattle.gates.proofs.Gate.bar_payloads.Goals as goal
 

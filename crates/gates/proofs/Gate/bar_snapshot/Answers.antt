@@ -1,6 +1,5 @@
 -- `gates::Gate::bar_snapshot` meets its contract. Assumes nothing.
 use Rattle.areas.specs.Areas.{long}
-use borrow.Author.Rules.{rules}
 use Rattle.gates.proofs.Gate.bar_snapshot.Goals as goal
 
 pub returns : goal.returns

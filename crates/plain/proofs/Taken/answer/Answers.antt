@@ -3,7 +3,6 @@ use mathlib.Core.Path.{◌∙◌, ap}
 use mir.Val.{bool_byte}
 use Rattle.plain.specs.Plain.{answer_to}
 use Rattle.plain.proofs.Bounds.{as_number}
-use borrow.Author.Rules.{rules}
 use Rattle.plain.proofs.Taken.answer.Goals as goal
 
 pub returns-in-Phase : goal.returns-in-Phase

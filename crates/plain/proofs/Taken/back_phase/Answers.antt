@@ -3,7 +3,6 @@ use mathlib.Core.Path.{refl}
 use Rattle.choice.proofs.Picks.{yes, no}
 use Rattle.choice.proofs.Tests.{branches}
 use Rattle.plain.specs.Plain.{is_left, back_phase}
-use borrow.Author.Rules.{rules}
 use Rattle.plain.proofs.Taken.back_phase.Goals as goal
 
 pub returns-then-self : goal.returns-then-self

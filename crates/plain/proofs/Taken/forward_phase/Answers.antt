@@ -3,7 +3,6 @@ use mathlib.Core.Path.{refl}
 use Rattle.choice.proofs.Picks.{yes, no, told}
 use Rattle.choice.proofs.Tests.{branches}
 use Rattle.plain.specs.Plain.{forward_phase}
-use borrow.Author.Rules.{rules}
 use Rattle.plain.proofs.Taken.forward_phase.Goals as goal
 
 pub returns-then-self-lt-LEAD : goal.returns-then-self-lt-LEAD

@@ -3,7 +3,6 @@ use mathlib.Core.Path.{sym, ap}
 use mathlib.Core.Bool.{Bool}
 use Rattle.plans.specs.Counts as Counts
 use Rattle.plain.specs.Plain.{is_back}
-use borrow.Author.Rules.{rules}
 use Rattle.plain.proofs.Taken.is_back.Goals as goal
 
 pub returns-then-self : goal.returns-then-self

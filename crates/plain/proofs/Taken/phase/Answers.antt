@@ -2,7 +2,6 @@
 use mathlib.Core.Path.{refl}
 use Rattle.choice.proofs.Picks.{yes, no}
 use Rattle.plain.specs.Plain.{phase_of}
-use borrow.Author.Rules.{rules}
 use Rattle.plain.proofs.Taken.phase.Goals as goal
 
 pub returns-then-self-2 : goal.returns-then-self-2

@@ -1,5 +1,4 @@
 -- `record::Record::refuse` meets its contract: a refusal is the answer. Assumes nothing.
-use borrow.Author.Rules.{rules}
 use Rattle.record.proofs.Record.refuse.Goals as goal
 
 pub returns : goal.returns

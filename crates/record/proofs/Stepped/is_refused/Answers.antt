@@ -1,5 +1,4 @@
 -- `record::Stepped::is_refused` meets its contract: the answer's class is the call's. Assumes nothing.
-use borrow.Author.Rules.{rules}
 use Rattle.record.proofs.Stepped.is_refused.Goals as goal
 
 pub returns : goal.returns

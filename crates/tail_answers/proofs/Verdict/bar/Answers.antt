@@ -1,7 +1,6 @@
 -- `tail_answers::Verdict::bar` meets its contract. Assumes nothing.
 use Rattle.choice.specs.Pick.{pick}
 use Rattle.tail_answers.specs.TailAnswers.{barred}
-use borrow.Author.Rules.{rules}
 use Rattle.tail_answers.proofs.Verdict.bar.Goals as goal
 
 pub returns-in-Refused : goal.returns-in-Refused

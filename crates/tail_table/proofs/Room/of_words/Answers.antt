@@ -2,7 +2,6 @@
 use mathlib.Core.Path.{refl}
 use Rattle.choice.specs.Pick.{◌or◌}
 use Rattle.tail_table.specs.Table.{other_words}
-use borrow.Author.Rules.{rules}
 use Rattle.tail_table.proofs.Room.of_words.Goals as goal
 
 pub returns : goal.returns

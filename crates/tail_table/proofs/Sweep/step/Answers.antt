@@ -10,7 +10,6 @@ use Rattle.tail_table.specs.Sweeping.{past, stepped}
 use Rattle.tail_table.specs.declared.Tail.{Tail}
 use Rattle.tail_table.specs.declared.File.{File}
 use Rattle.tail_table.specs.declared.Sweep.{Sweep}
-use borrow.Author.Rules.{rules}
 use Rattle.tail_table.proofs.Sweep.step.Goals as goal
 
 -- the code's own values: the record's pair u, and whether it comes after the last, b

@@ -1,7 +1,6 @@
 -- `tickets::Live::is` meets its contract. Assumes nothing.
 use Rattle.choice.specs.Pick.{◌and◌}
 use Rattle.tickets.specs.Live.{is_live}
-use borrow.Author.Rules.{rules}
 use Rattle.tickets.proofs.Live.is.Goals as goal
 
 pub returns : goal.returns

@@ -1,3 +1,2 @@
 -- `tickets::Live::number` meets its contract: a return for each kind of ticket. Assumes nothing.
-use borrow.Author.Rules.{rules}
 use Rattle.tickets.proofs.Live.number.Goals as goal
