@@ -1,3 +1,1 @@
-mod Beside
-mod Reader
 mod Start

@@ -1,5 +1,2 @@
 mod Copying
-mod Front
-mod Fronts
-mod Moves
 mod Sizes

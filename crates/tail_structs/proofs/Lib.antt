@@ -1,5 +1,1 @@
 mod Agree
-mod Counting
-pub mod Data
-mod Decided
-mod Shared
