@@ -1,5 +1,5 @@
 -- Document 01, "What a call answers": the number and the values of each answer. Assumes nothing.
-use Rattle.std.specs.Prelude.{ℕ, List, ◌∷◌}
+use Rattle.std.specs.Prelude.{ℕ, List, [], ◌∷◌}
 use Rattle.answers.specs.Classes.{Class, number_of}
 use Rattle.answers.specs.Classes.Class.{performed, refusal, stepping}
 use Rattle.answers.specs.Classes.StepAnswer.{ticket, waiting, failed, more, finished}

@@ -1,4 +1,5 @@
 -- `step_begins::begin_gate` meets its contract. Assumes nothing.
+use mathlib.Core.List.{[]}
 use Rattle.choice.specs.Pick.{◌or◌}
 use Rattle.gates.specs.Gates.{long_payloads}
 use Rattle.gates.proofs.Passing.{next, next_row}

@@ -1,4 +1,5 @@
 -- `step_begins::edit_gate` meets its contract. Assumes nothing.
+use mathlib.Core.List.{[]}
 use Rattle.gates.specs.Gates.{long_payloads}
 use Rattle.gates.proofs.Passing.{next, next_row}
 use Rattle.step_begins.proofs.edit_gate.Goals as goal

@@ -1,4 +1,5 @@
 -- `step_ends::refresh_gate` meets its contract. Assumes nothing.
+use mathlib.Core.List.{[]}
 use Rattle.gates.specs.Gates.{long_snapshot}
 use Rattle.gates.proofs.Passing.{next, next_row}
 use Rattle.step_ends.proofs.refresh_gate.Goals as goal

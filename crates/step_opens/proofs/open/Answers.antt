@@ -1,4 +1,5 @@
 -- `step_opens::open` meets its contract. Assumes nothing.
+use mathlib.Core.List.{[]}
 use mathlib.Core.Path.{◌∙◌, ap}
 use Rattle.record.specs.Answers.{answer, refuse}
 use Rattle.answers.specs.declared.Answer.TheVariants.{Done}

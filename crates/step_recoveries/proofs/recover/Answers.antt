@@ -1,5 +1,6 @@
 -- `step_recoveries::recover` meets its contract: the gate of both recoveries, with the length behind it; a staged record's
 -- count can be raised. Assumes nothing.
+use mathlib.Core.List.{[]}
 use borrow.Author.Tests.{not-false}
 use Rattle.gates.specs.Gates.{long_snapshot}
 use Rattle.gates.proofs.Passing.{next_row, handed}

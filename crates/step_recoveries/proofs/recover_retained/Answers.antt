@@ -1,5 +1,6 @@
 -- `step_recoveries::recover_retained` meets its contract: the gate of both recoveries; a staged record's count can be raised. Assumes
 -- nothing.
+use mathlib.Core.List.{[]}
 use borrow.Author.Tests.{not-false}
 use Rattle.gates.proofs.Passing.{handed}
 use Rattle.gates.proofs.Behind.{room_behind}

@@ -1,4 +1,5 @@
 -- `step_structure::report_structure` meets its contract. Assumes nothing.
+use mathlib.Core.List.{[]}
 use Rattle.record.specs.Given.{effect_of}
 use Rattle.gates.specs.Gates.{long_payloads}
 use Rattle.gates.proofs.Passing.{next_row, barred_out, let_in}

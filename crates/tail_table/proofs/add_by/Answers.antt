@@ -1,4 +1,5 @@
 -- `tail_table::add_by` meets its contract. Assumes nothing.
+use mathlib.Core.List.{[]}
 use mathlib.Core.Path.{◌∙◌, ap}
 use Rattle.tail_answers.specs.TailAnswers.{barred}
 use Rattle.tail_answers.specs.declared.TailRefusal.TheVariants.{Present}

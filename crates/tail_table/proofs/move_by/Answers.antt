@@ -1,4 +1,5 @@
 -- `tail_table::move_by` meets its contract. Assumes nothing.
+use mathlib.Core.List.{[]}
 use mathlib.Core.Path.{◌∙◌, ap}
 use mathlib.Core.Bool.{not}
 use Rattle.tail_answers.specs.TailAnswers.{barred}
