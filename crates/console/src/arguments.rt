@@ -1,6 +1,11 @@
 // What a program is asked by its arguments.
 use numbers::Read;
+use std::env::FillError;
+use std::rt::Env;
 use text::front;
+
+// The most bytes that are read of an argument.
+const WORD: usize = 4096;
 
 // An argument that is to be a number: it is none, or none was given.
 #[derive(Clone, Copy)]
@@ -10,31 +15,37 @@ pub enum Argument {
     Missing,
 }
 
+// Whether there is an argument at a place, the program's own name at 0.
+pub fn is_given(rt: &impl Env, place: usize) -> bool {
+    match rt.arg(place, &mut []) {
+        Err(FillError::NotPresent) => false,
+        _ => true,
+    }
+}
+
 // Whether the one argument is `help`.
-pub fn asks_for_help() -> bool {
-    let mut word = [0u8; 5];
-    let length = os::arg(1, &mut word);
-    (os::arg_count() == 2)
-        & (length == 4)
-        & (word[0] == b'h')
-        & (word[1] == b'e')
-        & (word[2] == b'l')
-        & (word[3] == b'p')
+pub fn asks_for_help(rt: &impl Env) -> bool {
+    let mut word = [0u8; 4];
+    match rt.arg(1, &mut word) {
+        Ok(length) => (front(&word, length) == b"help".as_slice()) & !is_given(rt, 2),
+        Err(_) => false,
+    }
+}
+
+// The decimal number that a word is.
+fn number_of(word: &[u8]) -> Argument {
+    match numbers::number(word, 0, u64::MAX) {
+        Read::Number { value, next } if next == word.len() => Argument::Number(value),
+        _ => Argument::Wrong,
+    }
 }
 
 // The decimal number that is the argument of a place, from 1 on.
-pub fn number_at(place: usize) -> Argument {
-    if os::arg_count() <= place {
-        return Argument::Missing;
+pub fn number_at(rt: &impl Env, place: usize) -> Argument {
+    let mut word = [0u8; WORD];
+    match rt.arg(place, &mut word) {
+        Ok(length) => number_of(front(&word, length)),
+        Err(FillError::TooLong) => Argument::Wrong,
+        Err(FillError::NotPresent) => Argument::Missing,
     }
-    let mut word = io::buffer();
-    let length = os::arg(place, &mut word);
-    let read = numbers::number(front(&word, length), 0, u64::MAX);
-    let Read::Number { value, next } = read else {
-        return Argument::Wrong;
-    };
-    if next == length {
-        return Argument::Number(value);
-    }
-    Argument::Wrong
 }

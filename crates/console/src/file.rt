@@ -1,58 +1,51 @@
 // Reading a file.
-use text::{front, put_text};
+ghost use Rattle.std.specs.Prelude.{◌+◌, ◌≤◌, length, IfOk};
 
-// What a file has: so many bytes, or as many as there was room for; or that it cannot be read.
+use std::io::{ErrorKind, Read};
+use std::rt::Files;
+use std::{fs, io};
+
+// What a file has: so many bytes, or as many as there was room for; or why it cannot be read.
 #[derive(Clone, Copy)]
 pub enum Contents {
     Bytes(usize),
-    Unreadable,
+    Unreadable(io::Error),
 }
 
-// What one more read came to: so many bytes in all, the end, or a failure.
-#[derive(Clone, Copy)]
-enum More {
-    Bytes(usize),
-    End,
-    Failure,
+// Reads once, behind the bytes that are there, and answers how many came: none at the end, or where there is no room.
+fn read_more(file: &mut impl Read, into: &mut [u8], done: usize) -> io::Result<usize>
+    requires { done ≤ length into.old }
+    ensures { IfOk result (λ more. done + more ≤ length into.new) }
+{
+    file.read(&mut into[done..])
 }
 
-// Reads once, and puts what came behind the bytes that are there.
-fn read_more(fd: i32, into: &mut [u8], done: usize) -> More {
-    let mut chunk = io::buffer();
-    let got = libc::read(fd, &mut chunk);
-    if got < 0 {
-        return More::Failure;
-    }
-    let count = io::count(got, &chunk);
-    if (count == 0) | (into.len() <= done) {
-        return More::End;
-    }
-    More::Bytes(put_text(into, done, front(&chunk, count)))
-}
-
-// The bytes of an open file go to `into`, as many as there is room for. Nothing says that a file ends, and a proved loop has to: it counts
-// its turns down, from a number that no run uses up.
-fn read_all(fd: i32, into: &mut [u8]) -> Contents {
+// The bytes of an open file go to `into`, as many as there is room for. Nothing says that a file ends, and a proved loop has to: its turns
+// are counted, up to a number that no run uses up.
+fn read_all(file: &mut impl Read, into: &mut [u8]) -> Contents {
     let mut done = 0;
-    let mut turns = u64::MAX;
-    while turns > 0 {
-        match read_more(fd, into, done) {
-            More::Bytes(more) => done = more,
-            More::End => return Contents::Bytes(done),
-            More::Failure => return Contents::Unreadable,
+    for _ in 0..u64::MAX {
+        match read_more(file, into, done) {
+            Ok(0) => return Contents::Bytes(done),
+            Ok(more) => done += more,
+            Err(why) => return Contents::Unreadable(why),
         }
-        turns -= 1;
     }
     Contents::Bytes(done)
 }
 
-// The bytes of the file of a path go to `into`, as many as there is room for.
-pub fn read_file(path: &[u8], into: &mut [u8]) -> Contents {
-    let fd = os::open_read(path);
-    if fd < 0 {
-        return Contents::Unreadable;
+// Opens the file of a path, which has to be text.
+fn open<R: Files>(rt: &R, path: &[u8]) -> io::Result<R::File> {
+    match str::from_utf8(path) {
+        Ok(name) => fs::open(rt, name),
+        Err(_) => Err(io::Error::from(ErrorKind::InvalidFilename)),
     }
-    let contents = read_all(fd, into);
-    libc::close(fd);
-    contents
+}
+
+// The bytes of the file of a path go to `into`, as many as there is room for.
+pub fn read_file(rt: &impl Files, path: &[u8], into: &mut [u8]) -> Contents {
+    match open(rt, path) {
+        Ok(mut file) => read_all(&mut file, into),
+        Err(why) => Contents::Unreadable(why),
+    }
 }

@@ -1,4 +1,6 @@
-// Reading standard input line by line, by way of a chunk of bytes. Of a line as many bytes are kept as there is room for.
+// Reading line by line, by way of a chunk of bytes. Of a line as many bytes are kept as there is room for.
+use std::io;
+use std::io::Read;
 use text::{front, put_byte};
 
 // Where the reading stands: the place in the chunk, how many bytes of the chunk were read, how many bytes the present line has, and
@@ -43,46 +45,49 @@ fn taking(at: usize, length: usize, whole: bool) -> Taken {
 // Takes bytes up to a newline or the end of what was read.
 fn take(read: &[u8], from: usize, line: &mut [u8], so_far: usize) -> Taken {
     let mut count = so_far;
-    let mut i = from;
-    while i < read.len() {
+    for i in from..read.len() {
         let byte = read[i];
-        i += 1;
         if byte == b'\n' {
-            return taking(i, count, true);
+            return taking(i + 1, count, true);
         }
         count = put_byte(line, count, byte);
     }
-    taking(i, count, false)
+    taking(read.len(), count, false)
 }
 
-// Reads the chunk anew, and answers how many bytes came. An input that cannot be read is at its end.
-fn refill(chunk: &mut [u8], what: &[u8]) -> usize {
-    let got = libc::read(libc::STDIN_FILENO, chunk);
-    if got < 0 {
-        os::fail(what);
-    }
-    io::count(got, chunk)
+// Whether the next line stands in the chunk whole, so that it is there without reading.
+pub fn holds_line(chunk: &[u8], place: Place) -> bool {
+    let read = front(chunk, place.filled);
+    (place.at..read.len()).any(|i| read[i] == b'\n')
+}
+
+// Reads the chunk anew, and answers how many bytes came: none at the end of the input.
+fn refill(input: &mut impl Read, chunk: &mut [u8]) -> io::Result<usize> {
+    input.read(chunk)
 }
 
 // The next line, without its newline, goes to `line`. Where the input ends before any byte of it, its length is 0 and `ended` holds.
-// Nothing says that an input ends, and a proved loop has to: it counts its turns down, from a number that no run uses up.
-pub fn next_line(chunk: &mut [u8], line: &mut [u8], place: Place, what: &[u8]) -> Place {
+// Nothing says that an input ends, and a proved loop has to: its turns are counted, up to a number that no run uses up.
+pub fn next_line(
+    input: &mut impl Read,
+    chunk: &mut [u8],
+    line: &mut [u8],
+    place: Place,
+) -> io::Result<Place> {
     let mut at = place.at;
     let mut filled = place.filled;
     let mut count = 0;
-    let mut turns = u64::MAX;
-    while turns > 0 {
+    for _ in 0..u64::MAX {
         let taken = take(front(chunk, filled), at, line, count);
-        if taken.whole {
-            return standing(taken.at, filled, taken.length, false);
-        }
         count = taken.length;
-        filled = refill(chunk, what);
+        if taken.whole {
+            return Ok(standing(taken.at, filled, count, false));
+        }
+        filled = refill(input, chunk)?;
         at = 0;
         if filled == 0 {
-            return standing(0, 0, count, true);
+            return Ok(standing(0, 0, count, true));
         }
-        turns -= 1;
     }
-    standing(0, 0, count, true)
+    Ok(standing(0, 0, count, true))
 }

@@ -1,5 +1,5 @@
-// Standard input line by line, standard output by way of a buffer, files and arguments, for programs. A failure to read or write
-// standard input or output is told on standard error; an input that fails is at its end. No contract can speak of what is read or written.
+// Input line by line, output by way of a buffer, files and arguments, for programs. A failure to read or write is given back as an error.
+// No contract can speak of what the system gives or takes.
 #![tactic(auto)]
 
 mod arguments;
@@ -7,7 +7,10 @@ mod file;
 mod input;
 mod output;
 
-pub use arguments::{Argument, asks_for_help, number_at};
+pub use arguments::{Argument, asks_for_help, is_given, number_at};
 pub use file::{Contents, read_file};
-pub use input::{Place, next_line, start};
+pub use input::{Place, holds_line, next_line, start};
 pub use output::flush_before;
+
+#[cfg(test)]
+mod tests;

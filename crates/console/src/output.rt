@@ -1,5 +1,6 @@
-// Writing to standard output by way of a buffer, of which the first `written` bytes wait.
-use libc::STDOUT_FILENO;
+// Writing by way of a buffer, of which the first `written` bytes wait.
+use std::io;
+use std::io::Write;
 use text::front;
 
 fn lacks_room(size: usize, written: usize, room: usize) -> bool {
@@ -10,13 +11,16 @@ fn lacks_room(size: usize, written: usize, room: usize) -> bool {
 }
 
 // Writes out what waits where this is due, or where there is less room left than is asked for, and answers how many bytes wait now.
-// `what` names the program and its output, for the word on a failure.
-pub fn flush_before(due: bool, buffer: &[u8], written: usize, room: usize, what: &[u8]) -> usize {
+pub fn flush_before(
+    output: &mut impl Write,
+    due: bool,
+    buffer: &[u8],
+    written: usize,
+    room: usize,
+) -> io::Result<usize> {
     if !(due | lacks_room(buffer.len(), written, room)) {
-        return written;
+        return Ok(written);
     }
-    if !io::write_all(STDOUT_FILENO, front(buffer, written)) {
-        os::fail(what);
-    }
-    0
+    output.write_all(front(buffer, written))?;
+    Ok(0)
 }

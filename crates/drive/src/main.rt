@@ -13,12 +13,12 @@ mod tail;
 mod telling;
 mod work;
 
-use libc::{STDERR_FILENO, STDOUT_FILENO};
+use anyhow::Result;
+use std::io;
 
-fn print_usage(to: i32) {
-    io::write_all(
-        to,
-        b"usage: drive < SCRIPT    plays a script, a command to a line, and writes the answers
+fn print_usage(to: &impl Print) -> io::Result<()> {
+    to.print(
+        "usage: drive < SCRIPT    plays a script, a command to a line, and writes the answers
        drive help        says this
 A payload P is LENGTH:SEED, words W are COUNT:SEED; an area B is a, c, r, x, t, l, g, s or f; # starts a comment.
   lend B N | put B INDEX VALUE | fill P | record and its 16 numbers | tails COUNT | show
@@ -31,18 +31,18 @@ A payload P is LENGTH:SEED, words W are COUNT:SEED; an area B is a, c, r, x, t, 
   find-tail DEVICE INODE SIZE DOMAIN D R C | move-tail DEVICE INODE OFFSET DOMAIN D R C
   find-struct and move-struct, with the same words
 ",
-    );
+    )
 }
 
-fn main() {
-    if os::arg_count() < 2 {
-        play::play();
-        return;
+fn main(rt: HostRuntime) -> Result<()> {
+    if !console::is_given(&rt, 1) {
+        return play::play(&mut rt.stdin(), &mut rt.stdout());
     }
-    if console::asks_for_help() {
-        print_usage(STDOUT_FILENO);
-        return;
+    if console::asks_for_help(&rt) {
+        print_usage(&rt.stdout())?;
+        return Ok(());
     }
-    io::write_all(STDERR_FILENO, b"drive: it takes no argument but help\n");
-    print_usage(STDERR_FILENO);
+    eprintln!(rt; "drive: it takes no argument but help")?;
+    print_usage(&rt.stderr())?;
+    Ok(())
 }

@@ -10,13 +10,15 @@ use super::tail::tail;
 use super::telling::Told;
 use super::work::work;
 use answers::Answer;
+use anyhow::{Context, Result};
 use commands::{Command, Planning};
-use console::{Place, flush_before, next_line, start};
+use console::{Place, flush_before, holds_line, next_line, start};
 use holdings::{HELD_LOG, HELD_TABLE, HELD_TAILS};
 use record::{Opening, Record, Stepped};
 use replies::of_answer;
 use script::{LONGEST, read};
 use stamp_replies::{of_check, of_stamp};
+use std::io::{Read, Write};
 use text::front;
 
 // A line is kept up to one byte more than it may have, so that one that is too long is seen to be so.
@@ -25,14 +27,24 @@ const LINE: usize = LONGEST + 1;
 // How many bytes are read, and written, at once.
 pub(crate) const CHUNK: usize = 65536;
 
-// Writes out what waits before more is read from standard input, and where there may be no room for an answer.
-fn write_on(buffer: &[u8; CHUNK], written: usize, due: bool) -> usize {
-    flush_before(due, buffer, written, ROOM, b"drive: standard output")
+// Writes out what waits before more is read, and where there may be no room for an answer.
+fn write_on(
+    output: &mut impl Write,
+    buffer: &[u8; CHUNK],
+    written: usize,
+    due: bool,
+) -> Result<usize> {
+    flush_before(output, due, buffer, written, ROOM).context("drive: standard output")
 }
 
 // The next line.
-fn read_on(chunk: &mut [u8; CHUNK], line: &mut [u8; LINE], place: Place) -> Place {
-    next_line(chunk, line, place, b"drive: standard input")
+fn read_on(
+    input: &mut impl Read,
+    chunk: &mut [u8; CHUNK],
+    line: &mut [u8; LINE],
+    place: Place,
+) -> Result<Place> {
+    next_line(input, chunk, line, place).context("drive: standard input")
 }
 
 // The command of a line. A slice is cut here, since an array that is lent cannot be.
@@ -143,10 +155,10 @@ fn perform(
     }
 }
 
-// Runs the script on standard input, line after line, until nothing is left to read; all that waited has been written out then. Here is
+// Runs the script that is the input, line after line, until nothing is left to read; all that waited has been written out then. Here is
 // all that the driver holds, and room: for what is read, a line of it, what waits to be written, and the payloads and words that a line
 // names.
-pub(crate) fn play() {
+pub(crate) fn play(input: &mut impl Read, output: &mut impl Write) -> Result<()> {
     let mut left = [0u8; SIDE];
     let mut right = [0u8; SIDE];
     let mut t = [0u64; HELD_TABLE];
@@ -162,14 +174,12 @@ pub(crate) fn play() {
     let mut lent = Lent::first();
     let mut place = start();
     let mut written = 0;
-    let mut number = 0u64;
-    while number < u64::MAX {
-        number += 1;
-        let due = place.at == place.filled;
-        written = write_on(&buffer, written, due);
-        place = read_on(&mut chunk, &mut line, place);
+    for number in 1..u64::MAX {
+        let due = !holds_line(&chunk, place);
+        written = write_on(output, &buffer, written, due)?;
+        place = read_on(input, &mut chunk, &mut line, place)?;
         if place.ended & (place.length == 0) {
-            return;
+            return Ok(());
         }
         let command = command_of(&line, place.length);
         let stepped = perform(
@@ -190,4 +200,5 @@ pub(crate) fn play() {
         lent = lent.after(command);
         written = put_told(&mut buffer, written, told, record, number);
     }
+    Ok(())
 }

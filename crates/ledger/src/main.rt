@@ -2,23 +2,19 @@
 // sixteen words of the log.
 #![tactic(auto)]
 
-use libc::STDOUT_FILENO;
 use record::{Opening, Record};
 use recorder::{EVENT, HEAD};
+use std::io;
 use transaction::{AREA, TABLE};
 
 // The words of a log with room for three events.
 const LOG: usize = HEAD + 3 * EVENT;
 
-fn print_words(words: &[u64]) {
-    let n = words.len();
-    let mut i = 0;
-    while i < n {
-        io::print_decimal(STDOUT_FILENO, words[i]);
-        io::write_all(STDOUT_FILENO, b" ");
-        i += 1;
+fn print_words(rt: &impl Print, words: &[u64]) -> io::Result<()> {
+    for word in words {
+        print!(rt; "{word} ")?;
     }
-    io::write_all(STDOUT_FILENO, b"\n");
+    println!(rt)
 }
 
 // A begin without actions, and its commit.
@@ -35,7 +31,7 @@ fn reload(
     recorder::commit(begun.state, log, accepted, candidate);
 }
 
-fn main() {
+fn main(rt: HostRuntime) -> io::Result<()> {
     let mut log = [7u64; LOG];
     let mut accepted = [0u8; AREA];
     let mut candidate = [0u8; AREA];
@@ -50,5 +46,5 @@ fn main() {
         &mut recovery,
         &mut table,
     );
-    print_words(&log);
+    print_words(&rt, &log)
 }

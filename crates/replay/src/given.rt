@@ -1,6 +1,7 @@
 // What the program is given by its words: a file, which its first word names, and up to five numbers.
 use console::Argument;
 use record::Opening;
+use std::rt::Env;
 
 // The opening, the length of its accepted payload, and how many events a portion has.
 #[derive(Clone, Copy)]
@@ -20,6 +21,8 @@ pub(crate) enum Words {
 }
 
 // The places of the words, the program's own name at 0.
+pub(crate) const PATH: usize = 1;
+
 const REVISION: usize = 2;
 
 const SERIAL: usize = 3;
@@ -34,8 +37,8 @@ const PORTION: usize = 6;
 const ALL: u64 = log_layout::ROOM as u64;
 
 // Whether a word is there that is no number.
-fn is_wrong(place: usize) -> bool {
-    match console::number_at(place) {
+fn is_wrong(rt: &impl Env, place: usize) -> bool {
+    match console::number_at(rt, place) {
         Argument::Number(_) => false,
         Argument::Wrong => true,
         Argument::Missing => false,
@@ -43,39 +46,38 @@ fn is_wrong(place: usize) -> bool {
 }
 
 // The number at a place, or another where there is none.
-fn number_or(place: usize, otherwise: u64) -> u64 {
-    match console::number_at(place) {
+fn number_or(rt: &impl Env, place: usize, otherwise: u64) -> u64 {
+    match console::number_at(rt, place) {
         Argument::Number(value) => value,
         Argument::Wrong => otherwise,
         Argument::Missing => otherwise,
     }
 }
 
-pub(crate) fn read() -> Words {
-    let count = os::arg_count();
-    if (count < REVISION) | (PORTION + 1 < count) {
+pub(crate) fn read(rt: &impl Env) -> Words {
+    if !console::is_given(rt, PATH) | console::is_given(rt, PORTION + 1) {
         return Words::Count;
     }
-    if is_wrong(REVISION)
-        | is_wrong(SERIAL)
-        | is_wrong(REPLACEMENTS)
-        | is_wrong(LENGTH)
-        | is_wrong(PORTION)
+    if is_wrong(rt, REVISION)
+        | is_wrong(rt, SERIAL)
+        | is_wrong(rt, REPLACEMENTS)
+        | is_wrong(rt, LENGTH)
+        | is_wrong(rt, PORTION)
     {
         return Words::Number;
     }
-    let portion = number_or(PORTION, ALL);
+    let portion = number_or(rt, PORTION, ALL);
     if portion == 0 {
         return Words::Portion;
     }
     let opening = Opening {
-        revision: number_or(REVISION, 0),
-        serial: number_or(SERIAL, 0),
-        replacements: number_or(REPLACEMENTS, 0),
+        revision: number_or(rt, REVISION, 0),
+        serial: number_or(rt, SERIAL, 0),
+        replacements: number_or(rt, REPLACEMENTS, 0),
     };
     Words::Given(Given {
         opening: opening,
-        length: number_or(LENGTH, 0),
+        length: number_or(rt, LENGTH, 0),
         portion: portion,
     })
 }

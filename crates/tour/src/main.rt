@@ -8,6 +8,7 @@ mod tell;
 
 use answers::Answer;
 use record::{Opening, Record, Stepped};
+use std::io;
 use tell::{DOMAIN, End, ended, restore, verdict, work};
 use transaction::{ACTIONS, AREA, TABLE};
 
@@ -22,25 +23,30 @@ const MORE: u64 = 23;
 const FINISHED: u64 = 24;
 
 // One action: ask for its ticket, do its work, report what became of it.
-fn update(r: Record, table: &mut [u64; TABLE], broken: u32) -> Stepped {
+fn update(
+    rt: &impl Print,
+    r: Record,
+    table: &mut [u64; TABLE],
+    broken: u32,
+) -> io::Result<Stepped> {
     let asked = transaction::ask_update(r);
     let answer = asked.answer;
     let Answer::Ticket { number, item } = answer else {
-        return asked;
+        return Ok(asked);
     };
-    let given = work(number, item, broken);
-    transaction::report_update(asked.state, given, table, IN_PLACE)
+    let given = work(rt, number, item, broken)?;
+    Ok(transaction::report_update(asked.state, given, table, IN_PLACE))
 }
 
 // One undoing: ask which action is next, the last that was started, restore it, report it.
-fn undo(r: Record, table: &mut [u64; TABLE]) -> Stepped {
+fn undo(rt: &impl Print, r: Record, table: &mut [u64; TABLE]) -> io::Result<Stepped> {
     let asked = transaction::ask_rollback(r);
     let answer = asked.answer;
     let Answer::Ticket { number, item } = answer else {
-        return asked;
+        return Ok(asked);
     };
-    let given = restore(number, item);
-    transaction::report_rollback(asked.state, given, table, AS_BEFORE)
+    let given = restore(rt, number, item)?;
+    Ok(transaction::report_rollback(asked.state, given, table, AS_BEFORE))
 }
 
 // Whether the last answer has this number.
@@ -50,59 +56,76 @@ fn answered(last: Stepped, number: u64) -> bool {
 }
 
 // Every action in turn, until one is not done or none is left.
-fn update_all(begun: Record, table: &mut [u64; TABLE], broken: u32) -> Stepped {
-    let mut turns = ACTIONS;
-    let mut last = update(begun, table, broken);
-    while turns > 0 && answered(last, MORE) {
-        last = update(last.state, table, broken);
-        turns -= 1;
+fn update_all(
+    rt: &impl Print,
+    begun: Record,
+    table: &mut [u64; TABLE],
+    broken: u32,
+) -> io::Result<Stepped> {
+    let mut last = update(rt, begun, table, broken)?;
+    for _ in 0..ACTIONS {
+        if !answered(last, MORE) {
+            break;
+        }
+        last = update(rt, last.state, table, broken)?;
     }
-    last
+    Ok(last)
 }
 
 // Every undoing in turn, until none is left.
-fn undo_all(r: Record, table: &mut [u64; TABLE]) -> Stepped {
-    let mut turns = ACTIONS;
-    let mut last = undo(r, table);
-    while turns > 0 && answered(last, MORE) {
-        last = undo(last.state, table);
-        turns -= 1;
+fn undo_all(rt: &impl Print, r: Record, table: &mut [u64; TABLE]) -> io::Result<Stepped> {
+    let mut last = undo(rt, r, table)?;
+    for _ in 0..ACTIONS {
+        if !answered(last, MORE) {
+            break;
+        }
+        last = undo(rt, last.state, table)?;
     }
-    last
+    Ok(last)
 }
 
 // A reload that is begun, to its end: a commit, or a rollback and a recovery.
 fn reload(
+    rt: &impl Print,
     begun: Record,
     accepted: &mut [u8; AREA],
     candidate: &mut [u8; AREA],
     recovery: &[u8; AREA],
     table: &mut [u64; TABLE],
     broken: u32,
-) -> Stepped {
-    let worked = update_all(begun, table, broken);
+) -> io::Result<Stepped> {
+    let worked = update_all(rt, begun, table, broken)?;
     if answered(worked, FINISHED) {
-        return transaction::commit(worked.state, accepted, candidate);
+        return Ok(transaction::commit(worked.state, accepted, candidate));
     }
-    let undone = undo_all(worked.state, table);
+    let undone = undo_all(rt, worked.state, table)?;
     let mut exchange = [0u8; AREA];
-    transaction::recover_retained(undone.state, accepted, recovery, &mut exchange)
+    Ok(transaction::recover_retained(undone.state, accepted, recovery, &mut exchange))
 }
 
 // Begins a reload of two actions, and runs it to its end.
 fn round(
+    rt: &impl Print,
     r: Record,
     accepted: &mut [u8; AREA],
     candidate: &mut [u8; AREA],
     recovery: &mut [u8; AREA],
     table: &mut [u64; TABLE],
     broken: u32,
-) -> Stepped {
+) -> io::Result<Stepped> {
     let new = [2u8; 44];
     let old = [1u8; 40];
     let pairs = [AS_BEFORE; 4];
     let begun = transaction::begin(r, candidate, recovery, table, &new, &old, &pairs);
-    reload(begun.state, accepted, candidate, recovery, table, broken)
+    reload(
+        rt,
+        begun.state,
+        accepted,
+        candidate,
+        recovery,
+        table,
+        broken,
+    )
 }
 
 // The settings in force, at revision 7.
@@ -118,6 +141,7 @@ fn opened(accepted: &mut [u8; AREA]) -> Record {
 
 // A plan is stamped, a reload is run, and the stamp is checked.
 fn reviewed(
+    rt: &impl Print,
     r: Record,
     accepted: &mut [u8; AREA],
     candidate: &mut [u8; AREA],
@@ -125,21 +149,22 @@ fn reviewed(
     table: &mut [u64; TABLE],
     broken: u32,
     by: End,
-) -> Record {
+) -> io::Result<Record> {
     let plan = transaction::stamp(r, DOMAIN);
-    let last = round(r, accepted, candidate, recovery, table, broken);
-    ended(by, last);
-    verdict(last.state, plan);
-    last.state
+    let last = round(rt, r, accepted, candidate, recovery, table, broken)?;
+    ended(rt, by, last)?;
+    verdict(rt, last.state, plan)?;
+    Ok(last.state)
 }
 
-fn main() {
+fn main(rt: HostRuntime) -> io::Result<()> {
     let mut accepted = [0u8; AREA];
     let mut candidate = [0u8; AREA];
     let mut recovery = [0u8; AREA];
     let mut table = [0u64; TABLE];
     let first = opened(&mut accepted);
     let then = reviewed(
+        &rt,
         first,
         &mut accepted,
         &mut candidate,
@@ -147,8 +172,9 @@ fn main() {
         &mut table,
         2,
         End::Commit,
-    );
+    )?;
     let last = reviewed(
+        &rt,
         then,
         &mut accepted,
         &mut candidate,
@@ -156,7 +182,7 @@ fn main() {
         &mut table,
         1,
         End::Recovery,
-    );
+    )?;
     let plan = transaction::stamp(last, DOMAIN);
-    verdict(last, plan);
+    verdict(&rt, last, plan)
 }

@@ -1,15 +1,13 @@
 // What the tour writes, and the work that stands in for an agent's: it says what it does.
-use libc::STDOUT_FILENO;
 use record::{Outcome, Record, Reporting, Stepped};
+use std::io;
 use step_stamps::{Checked, Stamping};
 
 // The domain of the plan.
 pub(crate) const DOMAIN: u64 = 3;
 
-fn tell(what: &[u8], number: u64) {
-    io::write_all(STDOUT_FILENO, what);
-    io::print_decimal(STDOUT_FILENO, number);
-    io::write_all(STDOUT_FILENO, b"\n");
+fn tell(rt: &impl Print, what: &str, number: u64) -> io::Result<()> {
+    println!(rt; "{what}{number}")
 }
 
 // How a reload is to end.
@@ -20,45 +18,50 @@ pub(crate) enum End {
 }
 
 // The work of an action, which fails with code 5 where it is `broken`; and its report.
-pub(crate) fn work(ticket: u64, action: u32, broken: u32) -> Reporting {
+pub(crate) fn work(
+    rt: &impl Print,
+    ticket: u64,
+    action: u32,
+    broken: u32,
+) -> io::Result<Reporting> {
     let outcome = if action == broken {
-        tell(b"  fails: action ", action as u64);
+        tell(rt, "  fails: action ", action as u64)?;
         Outcome::Failed(5)
     } else {
-        tell(b"  done: action ", action as u64);
+        tell(rt, "  done: action ", action as u64)?;
         Outcome::Done
     };
-    Reporting {
+    Ok(Reporting {
         ticket: ticket,
         outcome: outcome,
-    }
+    })
 }
 
 // The undoing of an action, and its report.
-pub(crate) fn restore(ticket: u64, action: u32) -> Reporting {
-    tell(b"  undone: action ", action as u64);
-    Reporting {
+pub(crate) fn restore(rt: &impl Print, ticket: u64, action: u32) -> io::Result<Reporting> {
+    tell(rt, "  undone: action ", action as u64)?;
+    Ok(Reporting {
         ticket: ticket,
         outcome: Outcome::Done,
-    }
+    })
 }
 
 // Writes what the call that ended a reload answered.
-pub(crate) fn ended(by: End, last: Stepped) {
+pub(crate) fn ended(rt: &impl Print, by: End, last: Stepped) -> io::Result<()> {
     let answer = last.answer;
     let number = answer.number();
     match by {
-        End::Commit => tell(b"commit: ", number),
-        End::Recovery => tell(b"recover retained: ", number),
+        End::Commit => tell(rt, "commit: ", number),
+        End::Recovery => tell(rt, "recover retained: ", number),
     }
 }
 
 // Writes 1 where the stamp of a plan passes, and 0 where it does not.
-pub(crate) fn verdict(r: Record, plan: Stamping) {
+pub(crate) fn verdict(rt: &impl Print, r: Record, plan: Stamping) -> io::Result<()> {
     let Stamping::Taken(stamp) = plan else {
-        return;
+        return Ok(());
     };
     let checked = transaction::check(r, DOMAIN, stamp);
     let passes = if let Checked::Passes = checked { 1 } else { 0 };
-    tell(b"the stamp passes: ", passes);
+    tell(rt, "the stamp passes: ", passes)
 }

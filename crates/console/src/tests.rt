@@ -1,0 +1,76 @@
+// What no clause says: which bytes of an input are its lines, when what waits is written, and that a failure comes through. The chunk and
+// the line are small, so that lines cross chunks and are cut.
+use super::{Place, flush_before, holds_line, next_line, start};
+use std::io;
+use std::io::{ErrorKind, Read, Write};
+use std::test::Fail;
+use text::front;
+
+const NO_LINE: &str = "no line";
+
+// A disk that is broken.
+#[derive(Clone, Copy)]
+struct Broken;
+
+impl Read for Broken {
+    fn read(&mut self, _buf: &mut [u8]) -> io::Result<usize> {
+        Err(io::Error::from(ErrorKind::Other))
+    }
+}
+
+impl Write for Broken {
+    fn write(&mut self, _buf: &[u8]) -> io::Result<usize> {
+        Err(io::Error::from(ErrorKind::StorageFull))
+    }
+
+    fn flush(&mut self) -> io::Result<()> {
+        Ok(())
+    }
+}
+
+#[test]
+fn lines_cross_chunks_and_are_cut(rt: HostRuntime) -> Result<(), Fail> {
+    let mut input = b"ab\n\nabcdef\nc".as_slice();
+    let mut chunk = [0u8; 4];
+    let mut line = [0u8; 5];
+    let mut place = start();
+    for want in ["ab", "", "abcde", "c", ""] {
+        place = next_line(&mut input, &mut chunk, &mut line, place)?;
+        let got = str::from_utf8(front(&line, place.length)).unwrap_or(NO_LINE);
+        assert_eq!(rt; got, want);
+    }
+    assert!(rt; place.ended);
+    Ok(())
+}
+
+#[test]
+fn a_line_is_held_up_to_its_newline(rt: HostRuntime) {
+    let place = Place {
+        at: 2,
+        filled: 4,
+        length: 0,
+        ended: false,
+    };
+    for (chunk, want) in [(b"a\nb\nc", true), (b"a\nbc\n", false)] {
+        assert_eq!(rt; holds_line(chunk, place), want);
+    }
+}
+
+#[test]
+fn a_read_that_fails_is_no_end(rt: HostRuntime) {
+    let mut chunk = [0u8; 4];
+    let mut line = [0u8; 4];
+    let read = next_line(&mut Broken, &mut chunk, &mut line, start());
+    assert!(rt; read.is_err());
+}
+
+#[test]
+fn what_waits_is_written_where_it_is_due_or_room_is_short(rt: HostRuntime) -> Result<(), Fail> {
+    let mut output = Vec::new(rt.alloc());
+    for (due, room, want) in [(false, 2, 3), (false, 3, 0), (true, 0, 0)] {
+        assert_eq!(rt; flush_before(&mut output, due, b"abc--", 3, room)?, want);
+    }
+    assert_eq!(rt; output.as_slice(), b"abcabc".as_slice());
+    assert!(rt; flush_before(&mut Broken, true, b"abc--", 3, 0).is_err());
+    Ok(())
+}
