@@ -3,8 +3,11 @@ ghost use Rattle.std.specs.Prelude.{◌≡◌, true};
 ghost use Rattle.record.specs.Answers.{tells};
 ghost use Rattle.step_opens.specs.Opening.{open_step};
 
-use console::{number_or, tell};
+use super::telling::tell;
+use console::Argument;
 use record::{Opening, Stepped};
+use std::io;
+use std::rt::Env;
 
 // An opening, and the length of its accepted payload.
 #[derive(Clone, Copy)]
@@ -44,31 +47,60 @@ impl Given {
     }
 }
 
+// Whether a word is there that is no number.
+fn is_wrong(rt: &impl Env, place: usize) -> bool {
+    match console::number_at(rt, place) {
+        Argument::Number(_) => false,
+        Argument::Wrong => true,
+        Argument::Missing => false,
+    }
+}
+
+// Whether a word behind the file is no number.
+fn has_wrong(rt: &impl Env, most: usize) -> bool {
+    (REVISION..most).any(|place| is_wrong(rt, place))
+}
+
+// The number at a place, or another where there is none.
+pub fn number_or(rt: &impl Env, place: usize, otherwise: u64) -> u64 {
+    match console::number_at(rt, place) {
+        Argument::Number(value) => value,
+        Argument::Wrong => otherwise,
+        Argument::Missing => otherwise,
+    }
+}
+
 // The opening's numbers, each 0 where it is missing.
-fn opening_words() -> Given {
+fn opening_words(rt: &impl Env) -> Given {
     let opening = Opening {
-        revision: number_or(REVISION, 0),
-        serial: number_or(SERIAL, 0),
-        replacements: number_or(REPLACEMENTS, 0),
+        revision: number_or(rt, REVISION, 0),
+        serial: number_or(rt, SERIAL, 0),
+        replacements: number_or(rt, REPLACEMENTS, 0),
     };
     Given {
         opening: opening,
-        length: number_or(LENGTH, 0),
+        length: number_or(rt, LENGTH, 0),
     }
 }
 
 // Reads the words of a program that takes up to `most`, its own name and a file among them; `takes` says so.
-pub fn read_words(program: &[u8], takes: &[u8], most: usize) -> Words {
-    if !console::counts_within(FILE + 1, most) {
-        tell(program, takes);
-        return Words::Wrong;
+pub fn read_words(
+    rt: &(impl Env + Eprint),
+    program: &str,
+    takes: &str,
+    most: usize,
+) -> io::Result<Words> {
+    if !console::is_given(rt, FILE) | console::is_given(rt, most) {
+        tell(rt, program, takes)?;
+        return Ok(Words::Wrong);
     }
-    if console::has_wrong(REVISION) {
+    if has_wrong(rt, most) {
         tell(
+            rt,
             program,
-            b"a word after FILE is no number from 0 to 18446744073709551615",
-        );
-        return Words::Wrong;
+            "a word after FILE is no number from 0 to 18446744073709551615",
+        )?;
+        return Ok(Words::Wrong);
     }
-    Words::Given(opening_words())
+    Ok(Words::Given(opening_words(rt)))
 }

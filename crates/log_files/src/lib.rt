@@ -4,6 +4,7 @@
 
 mod file;
 mod given;
+mod telling;
 
 pub use file::{Loaded, WORDS, load};
-pub use given::{BEHIND, Given, Words, read_words};
+pub use given::{BEHIND, Given, Words, number_or, read_words};

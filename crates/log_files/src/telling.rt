@@ -1,0 +1,19 @@
+// Lines on standard error.
+use std::io;
+
+// What a program has to say of its work.
+pub(crate) fn tell(rt: &impl Eprint, program: &str, what: &str) -> io::Result<()> {
+    eprintln!(rt; "{program}: {what}")
+}
+
+// Says why the file of a path cannot be read.
+pub(crate) fn tell_unreadable(
+    rt: &impl Eprint,
+    program: &str,
+    path: &[u8],
+    why: io::Error,
+) -> io::Result<()> {
+    let name = str::from_utf8(path).unwrap_or("FILE");
+    eprintln!(rt; "{name}: {why}")?;
+    tell(rt, program, "FILE cannot be read")
+}
