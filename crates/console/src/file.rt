@@ -1,5 +1,5 @@
 // Reading a file.
-ghost use Rattle.std.specs.Prelude.{◌+◌, ◌≤◌, length, IfOk};
+ghost use Rattle.std.specs.Prelude.{◌-◌, ◌≤◌, length, IfOk};
 
 use std::io::{ErrorKind, Read};
 use std::rt::Files;
@@ -14,9 +14,11 @@ pub enum Contents {
 
 // Reads once, behind the bytes that are there, and answers how many came: none at the end, or where there is no room.
 fn read_more(file: &mut impl Read, into: &mut [u8], done: usize) -> io::Result<usize>
-    requires { done ≤ length into.old }
-    ensures { IfOk result (λ more. done + more ≤ length into.new) }
+    ensures { IfOk result (λ more. more ≤ length into.new - done) }
 {
+    if into.len() < done {
+        return Ok(0);
+    }
     file.read(&mut into[done..])
 }
 
