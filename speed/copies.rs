@@ -1,5 +1,5 @@
 //! Copying and exchanging areas and parts of them: the proved functions, linked from
-//! target/staticlib/libedge.a, beside Rust's own and beside plain loops with
+//! crates/edge/out/libedge.a, beside Rust's own and beside plain loops with
 //! checked indices.
 //!
 //! Within Rust 1.63 and std alone: it is also built by Debian's rustc.

@@ -1,5 +1,5 @@
 //! Replaying an input log of 1,024 events: the proved function, linked from
-//! target/staticlib/libedge.a, beside the oracle's, linked as a library. Both
+//! crates/edge/out/libedge.a, beside the oracle's, linked as a library. Both
 //! start from the record of the same opening, and write the answers to a slice
 //! that is lent.
 //!

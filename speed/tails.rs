@@ -1,5 +1,5 @@
 //! Finding and moving in a tail table of 256 records: the proved functions,
-//! linked from target/staticlib/libedge.a, beside safe Rust that does the same
+//! linked from crates/edge/out/libedge.a, beside safe Rust that does the same
 //! test of the order and the same search, each record once.
 //!
 //! Within Rust 1.63 and std alone: it is also built by Debian's rustc.
