@@ -2,4 +2,3 @@
 // words of the log's example, a whole record for each phase and ticket, and chains to which the theorems are applied, so that no
 // hypothesis of theirs is met by nothing.
 #![tactic(auto)]
-

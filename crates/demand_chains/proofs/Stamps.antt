@@ -79,9 +79,10 @@ module _ (r : Record) (d : ℕ) (s : SaveStamp) (ss : List Sent) (e : ℕ) (m : 
   pub since_whole : whole (after_sent r ss) ≡ true
   since_whole = whole_chain r ss m (stamped r d s h).is_whole
 
-  pub since_passes : passes (after_sent r ss) e s ≡ stamp_passes w.running e d w.replacements
+  -- the law of both that follow
+  since : passes (after_sent r ss) e s ≡ stamp_passes w.running e d w.replacements
   unfolding passes unwatched stamp_passes
-  since_passes =
+  since =
       let t = stamped r d s h in
       let g = chain_gains unwatched r ss in
       let k = chain_counts unwatched r ss in
@@ -91,5 +92,8 @@ module _ (r : Record) (d : ℕ) (s : SaveStamp) (ss : List Sent) (e : ℕ) (m : 
       ∙ ap (λ (b : Bool). not b and eqb e d and eqb q.revision r.revision and eqb q.replacements r.replacements) (sym (chain_runs unwatched r ss (sym t.idle)))
       ∙ same_by _ q.revision _ q.replacements _ w.commits w.replacements (omega arith) (omega arith) (omega arith)
 
+  pub since_passes : passes (after_sent r ss) e s ≡ stamp_passes w.running e d w.replacements
+  since_passes = since
+
   pub stamp_law : said_of (step (after_sent r ss) (check e s)) ≡ said performed (pick (stamp_passes w.running e d w.replacements) 1 0 ∷ [])
-  stamp_law = checked (after_sent r ss) e s since_whole ∙ ap (λ (b : Bool). said performed (pick b 1 0 ∷ [])) since_passes
+  stamp_law = checked (after_sent r ss) e s since_whole ∙ ap (λ (b : Bool). said performed (pick b 1 0 ∷ [])) since
