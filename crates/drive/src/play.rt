@@ -174,7 +174,7 @@ pub(crate) fn play(input: &mut impl Read, output: &mut impl Write) -> Result<()>
     let mut lent = Lent::first();
     let mut place = start();
     let mut written = 0;
-    for number in 1..u64::MAX {
+    for number in 1..=u64::MAX {
         let due = !holds_line(&chunk, place);
         written = write_on(output, &buffer, written, due)?;
         place = read_on(input, &mut chunk, &mut line, place)?;
