@@ -13,8 +13,11 @@ use Rattle.answers.specs.{Classes.Class, Classes.Class.refusal, declared.Answer.
 use Rattle.answers.specs.{declared.Refusal.TheVariants.Idle, declared.Refusal.TheVariants.NotReady}
 use Rattle.wholeness.specs.{Whole.whole}
 use Rattle.completeness.specs.{Complete.complete}
-use Rattle.gates.specs.{Gates.Bar, Gates.barring, Gates.long_snapshot}
-use Rattle.gates.proofs.Passing.{Clear, fails}
+use Rattle.answers.specs.declared.Refusal.{Refusal}
+use Rattle.bars.specs.{Bars.Bar}
+use Rattle.gates.specs.{Gates.barring, Gates.long_snapshot}
+use Rattle.bars.proofs.Passing.{Clear}
+use Rattle.gates.proofs.Passing.{fails}
 use Rattle.record.specs.Given.{opening, standing}
 use Rattle.step_ends.specs.Ending.{after_commit, commit_bars, commit_own}
 use Rattle.step_recoveries.specs.Recovering.{unrestored, recover_bars, recovered_to, recover_own, recover_retained_own}
@@ -74,7 +77,7 @@ module _ (r : Record) (m : Typed (standing r)) (w : whole r ≡ true) where
   }
 
   -- both recoveries: to a payload of length n, whose own refusal comes next
-  module _ (n : ℕ) (next : List Bar) (z : Clear next ↔ (n ≤ area_size)) where
+  module _ (n : ℕ) (next : List (Bar Refusal)) (z : Clear next ↔ (n ≤ area_size)) where
     abbrev Error : Class → Type 0
     Error c = RecoverAnswer r n c × (gained c ≡ false → Unready r c)
 

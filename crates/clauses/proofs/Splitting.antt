@@ -13,8 +13,10 @@ use Rattle.answers.specs.Classes.{Class, StepAnswer, refusal_number, number_of, 
 use Rattle.record.specs.declared.Outcome.TheVariants as O
 use Rattle.answers.specs.declared.Refusal.TheVariants.{NotReady, Recovering}
 use Rattle.wholeness.specs.{Whole.whole}
-use Rattle.gates.specs.{Gates.Bar, Gates.barring}
-use Rattle.gates.proofs.Passing.{Clear}
+use Rattle.answers.specs.declared.Refusal.{Refusal}
+use Rattle.bars.specs.{Bars.Bar}
+use Rattle.gates.specs.{Gates.barring}
+use Rattle.bars.proofs.Passing.{Clear}
 use Rattle.reporting.specs.Reporting.{reported}
 use Rattle.calls.specs.Calls.{Call, step}
 use Rattle.demand_steps.specs.Typed.{Typed}
@@ -54,12 +56,12 @@ beyond why g =
     (ne_eqb _ (refusal_number Recovering) (λ (z : refusal_number why ≡ _). nope (rw z at g)))
 
 -- a report's refusals in a row, all of them such, and what is done where none is given
-abbrev pub all_gained : List Bar → Bool
+abbrev pub all_gained : List (Bar Refusal) → Bool
 all_gained [] = true
 all_gained (b ∷ bs) = gains b.why && all_gained bs
 
 pub past : (P : Told → Type 0) (r : Record) → ((why : Refusal) → gains why ≡ true → Kept P (refuse why r)) →
-    (bs : List Bar) {done : Told} → all_gained bs ≡ true → (Clear bs → Kept P done) → Kept P (barring bs r done)
+    (bs : List (Bar Refusal)) {done : Told} → all_gained bs ≡ true → (Clear bs → Kept P done) → Kept P (barring bs r done)
 unfolding ◌and◌
 past P r f [] h g = g refl
 past P r f (b ∷ bs) h g = let x = both {a = gains b.why} h in by P b.test (λ e. f b.why x.0) (λ e. past P r f bs x.1 (λ y. g (e, y)))
@@ -73,7 +75,7 @@ outcomes P (O.Failed code) f p = f _ _ refl
 outcomes P O.Done f p = p
 
 -- each refusal of a row, where none before it is given
-abbrev pub Each : (Class → Type 0) → List Bar → Type 0
+abbrev pub Each : (Class → Type 0) → List (Bar Refusal) → Type 0
 Each E [] = true ≡ true
 Each E (b ∷ bs) = (b.test ≡ true → E (refusal b.why)) × (b.test ≡ false → Each E bs)
 
@@ -81,34 +83,34 @@ pub bar : {A B : Type 0} → A → B → A × B
 bar f g = (f, g)
 
 -- what a row comes to: the first refusal whose test holds, or what is done
-pub data Decided (r : Record) (E : Class → Type 0) (done : Told) (bs : List Bar) : Told → Type 0 where
+pub data Decided (r : Record) (E : Class → Type 0) (done : Told) (bs : List (Bar Refusal)) : Told → Type 0 where
   refuses : {why : Refusal} → (Clear bs → ⊥) → E (refusal why) → Decided r E done bs (refuse why r)
   does : Clear bs → Decided r E done bs done
 
 module _ {r : Record} {E : Class → Type 0} {done : Told} where
-  passes : {b : Bar} {bs : List Bar} {t : Told} → b.test ≡ false → Decided r E done bs t → Decided r E done (b ∷ bs) t
+  passes : {b : Bar Refusal} {bs : List (Bar Refusal)} {t : Told} → b.test ≡ false → Decided r E done bs t → Decided r E done (b ∷ bs) t
   passes e (refuses n x) = refuses (λ y. n y.1) x
   passes e (does y) = does (e, y)
 
-  pub decide : (bs : List Bar) → Each E bs → Decided r E done bs (barring bs r done)
+  pub decide : (bs : List (Bar Refusal)) → Each E bs → Decided r E done bs (barring bs r done)
   decide [] x = does refl
   decide (b ∷ bs) x = picked (Decided r E done (b ∷ bs)) b.test (λ e. refuses (λ y. clash _ e y.0) (x.0 e)) (λ e. passes e (decide bs (x.1 e)))
 
   -- it is performed exactly where no test holds
-  pub decides : {bs : List Bar} {t : Told} {C : Type 0} → Decided r E done bs t → done.class ≡ performed → (Clear bs → C) → (C → Clear bs) → (t.class ≡ performed) ↔ C
+  pub decides : {bs : List (Bar Refusal)} {t : Told} {C : Type 0} → Decided r E done bs t → done.class ≡ performed → (Clear bs → C) → (C → Clear bs) → (t.class ≡ performed) ↔ C
   decides (refuses n x) p f g = (λ i. never (ap refused i), λ c. absurd (n (g c)))
   decides (does y) p f g = (λ i. f y, λ c. p)
 
-  pub only : {bs : List Bar} {t : Told} (P : Told → Type 0) → Decided r E done bs t → (Clear bs → P done) → t.class ≡ performed → P t
+  pub only : {bs : List (Bar Refusal)} {t : Told} (P : Told → Type 0) → Decided r E done bs t → (Clear bs → P done) → t.class ≡ performed → P t
   only P (refuses n x) f i = never (ap refused i)
   only P (does y) f i = f y
 
   -- else the record stays
-  pub denied : {bs : List Bar} {t : Told} → Decided r E done bs t → done.class ≡ performed → refused t.class ≡ true → (t.state ≡ r) × E t.class
+  pub denied : {bs : List (Bar Refusal)} {t : Told} → Decided r E done bs t → done.class ≡ performed → refused t.class ≡ true → (t.state ≡ r) × E t.class
   denied (refuses n x) p i = (refl, x)
   denied (does y) p i = clash _ i (ap refused p)
 
-  pub keeps : {bs : List Bar} {t : Told} (Q : Record → Type 0) → Decided r E done bs t → Q r → Q done.state → Q t.state
+  pub keeps : {bs : List (Bar Refusal)} {t : Told} (Q : Record → Type 0) → Decided r E done bs t → Q r → Q done.state → Q t.state
   keeps Q (refuses n x) q d = q
   keeps Q (does y) q d = d
 
@@ -124,6 +126,6 @@ module _ (r : Record) (m : Typed (standing r)) (w : whole r ≡ true) (c : Call)
   on_step P f = subst (Kept P) (sym (whole_step r c w)) f still_whole
 
 -- its refusals in a row
-pub settled : (r : Record) (c : Call) {E : Class → Type 0} {done : Told} (bs : List Bar) →
+pub settled : (r : Record) (c : Call) {E : Class → Type 0} {done : Told} (bs : List (Bar Refusal)) →
     whole r ≡ true → own r c ≡ barring bs r done → Each E bs → Decided r E done bs (step r c)
 settled r c {E} {done} bs w e x = subst (Decided r E done bs) (sym (whole_step r c w ∙ e)) (decide bs x)

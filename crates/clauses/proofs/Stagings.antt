@@ -10,8 +10,10 @@ use Rattle.record.specs.{Answers.Told, Answers.answer, Fields.top, Fields.with_l
 use Rattle.answers.specs.{Classes.Class, Classes.Class.refusal, declared.Answer.TheVariants.Done, declared.Was.TheVariants.Nothing}
 use Rattle.answers.specs.declared.Refusal.TheVariants.{Pending, Idle, Capacity, TooMany, LongCandidate, LongRecovery}
 use Rattle.wholeness.specs.{Whole.whole}
-use Rattle.gates.specs.{Gates.Bar}
-use Rattle.gates.proofs.Passing.{Clear, fails}
+use Rattle.answers.specs.declared.Refusal.{Refusal}
+use Rattle.bars.specs.{Bars.Bar}
+use Rattle.bars.proofs.Passing.{Clear}
+use Rattle.gates.proofs.Passing.{fails}
 use Rattle.step_begins.specs.Beginning.{first_phase, begun, begin_bars, begin_own, edit_bars, edit_own}
 use Rattle.calls.specs.{Calls.step, Calls.Call.begin, Calls.Call.edit}
 use Rattle.demand_steps.specs.Typed.{Typed}
@@ -21,7 +23,7 @@ use Rattle.clauses.specs.Gaps.BeginAnswer.{pending, capacity, long_candidate, lo
 use Rattle.clauses.proofs.Splitting.{nor, differ, bar, Each, Decided, decides, only, denied, keeps, still_whole, settled}
 use Rattle.clauses.proofs.Splitting.Decided.{refuses, does}
 
-framed : {r : Record} {E : Class → Type 0} {d t : Told} {bs : List Bar} → Decided r E d bs t → whole t.state ≡ true →
+framed : {r : Record} {E : Class → Type 0} {d t : Told} {bs : List (Bar Refusal)} → Decided r E d bs t → whole t.state ≡ true →
     (d.state.accepted ≡ r.accepted) × (d.state.revision ≡ r.revision) → Framed r t
 framed (refuses n e) k x = record { wf = k; accepted = refl; version = refl }
 framed (does y) k x = record { wf = k; accepted = x.0; version = x.1 }

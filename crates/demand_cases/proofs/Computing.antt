@@ -25,7 +25,7 @@ use Rattle.step_rollbacks.specs.Rollbacks.{ask_rollback_own, turned}
 use Rattle.reporting.specs.Reporting.{reported}
 use Rattle.step_structure.specs.Structure.{onward, advanced, structure_done, report_structure_own}
 use Rattle.step_updates.specs.Updates.{update_done, report_update_own}
-use Rattle.step_undos.specs.Undos.{least, leaving, rollback_done, report_rollback_own}
+use Rattle.step_undos.specs.Undos.{leaving, rollback_done, report_rollback_own}
 use Rattle.step_ends.specs.Ending.{commit_own, refresh_own}
 use Rattle.step_recoveries.specs.Recovering.{unrestored, recover_own, recover_retained_own}
 use Rattle.step_stamps.specs.Stamping.{stamp_step, passes, check_step}
@@ -46,7 +46,7 @@ use Rattle.demand_chains.proofs.Theorems.{demands}
 
 -- a call on a record
 unfoldable pub called : Record → Call → Told
-unfolding pick ◌and◌ ◌or◌ ◌implies◌ has_successor successor boundary long is_live adopting lengths_fit counts_fit staged_fits forward_fits back_fits restoring_fits live_fits whole complete gate_of gated opening open_step first_phase begun begin_own edit_own ask_structure_own ask_update_own ask_rollback_own turned onward advanced structure_done update_done least leaving rollback_done reported report_structure_own report_update_own report_rollback_own commit_own unrestored recover_own recover_retained_own refresh_own stamp_step passes check_step
+unfolding pick ◌and◌ ◌or◌ ◌implies◌ has_successor successor boundary long is_live adopting lengths_fit counts_fit staged_fits forward_fits back_fits restoring_fits live_fits whole complete gate_of gated opening open_step first_phase begun begin_own edit_own ask_structure_own ask_update_own ask_rollback_own turned onward advanced structure_done update_done leaving rollback_done reported report_structure_own report_update_own report_rollback_own commit_own unrestored recover_own recover_retained_own refresh_own stamp_step passes check_step
 called r c = step r c
 
 abbrev pub performs : Record → Call → Bool

@@ -21,10 +21,11 @@ use Rattle.answers.specs.declared.Refusal.{Refusal}
 use Rattle.answers.specs.declared.Refusal.TheVariants.{NotReady, Recovering, BadArea, Damaged, Worn}
 use Rattle.log_layout.specs.Kinds.{reports}
 use Rattle.wholeness.specs.Whole.{whole}
-use Rattle.gates.specs.Gates.{gate_of, gated, Bar, barring, long_snapshot}
-use Rattle.gates.specs.declared.Gate.TheVariants.{Open, Shut}
+use Rattle.bars.specs.Bars.{Bar}
+use Rattle.gates.specs.Gates.{gate_of, gated, barring, long_snapshot}
+use Rattle.std.specs.Prelude.{Ok, Err}
 use Rattle.wholeness.proofs.Facts.{parts, live_structure}
-use Rattle.gates.proofs.Passing.{Clear}
+use Rattle.bars.proofs.Passing.{Clear}
 use Rattle.step_opens.specs.Opening.{unopened, open_bars, open_step}
 use Rattle.step_begins.specs.Beginning.{begin_bars, begin_own, edit_bars, edit_own}
 use Rattle.step_asks.specs.Asks.{ask_structure_own, ask_update_own}
@@ -53,7 +54,7 @@ abbrev pub telling : Record → View Told
 telling r = record { class = λ t. t.class; number = λ t. t.number; same = λ t. t.state ≡ r }
 
 -- the rows of a call's own refusals
-abbrev bar_rows : List Bar → List Row → List Row
+abbrev bar_rows : List (Bar Refusal) → List Row → List Row
 bar_rows [] rest = rest
 bar_rows (b ∷ bs) rest = refusal_number b.why when b.test ∷ bar_rows bs rest
 
@@ -64,7 +65,7 @@ module _ (r : Record) where
   refuses : (why : Refusal) (b : Bool) {y : Told} {rest : List Row} → Tells y rest → Tells (pick b (refuse why r) y) (refusal_number why when b ∷ rest)
   refuses why b f = row b (stays refl refl refl) (λ _. f)
 
-  bars : (bs : List Bar) {done : Told} {rest : List Row} → (Clear bs → Tells done rest) → Tells (barring bs r done) (bar_rows bs rest)
+  bars : (bs : List (Bar Refusal)) {done : Told} {rest : List Row} → (Clear bs → Tells done rest) → Tells (barring bs r done) (bar_rows bs rest)
   bars [] f = f refl
   bars (b ∷ bs) f = row b.test (stays refl refl refl) (λ e. bars bs (λ x. f (e, x)))
 
@@ -75,7 +76,7 @@ module _ (r : Record) where
   gate {own} {rest} sized sound f = by sized (sound and whole r) (λ e. f (both e).1)
     where
       by : (a b : Bool) → (b ≡ true → Tells own rest)
-          → Tells (gated (pick (not a) (Shut BadArea) (pick b Open (Shut Damaged))) r own) (6 when not a ∷ 7 when not b ∷ rest)
+          → Tells (gated (pick (not a) (Err BadArea) (pick b (Ok tt) (Err Damaged))) r own) (6 when not a ∷ 7 when not b ∷ rest)
       by false b g = now (stays refl refl refl)
       by true false g = later (now (stays refl refl refl))
       by true true g = later (later (g refl))
@@ -103,7 +104,7 @@ structure_outcomes r t c o x w e =
 
 module _ (sized sound : Bool) (r : Record) where
   -- a call with a row of refusals of its own, which else is performed
-  performs : (bs : List Bar) (done : Told) → done.class ≡ performed → done.number ≡ 0
+  performs : (bs : List (Bar Refusal)) (done : Told) → done.class ≡ performed → done.number ≡ 0
       → Tells r (gated (gate_of sized sound r) r (barring bs r done)) (gate_rows sized sound r (bar_rows bs done_rows))
   performs bs done c e = gate r sized sound (λ _. bars r bs (λ _. last e (ap number_of c) (ap refused c)))
 

@@ -20,7 +20,8 @@ use Rattle.record.specs.declared.Outcome.TheVariants as O
 use Rattle.answers.specs.declared.Answer.TheVariants.{Finished}
 use Rattle.answers.specs.declared.Refusal.{Refusal}
 use Rattle.answers.specs.declared.Refusal.TheVariants.{Pending, Idle, Capacity, TooMany, Stale, LongCandidate, LongRecovery, LongSnapshot}
-use Rattle.gates.specs.Gates.{Bar, barring, long_snapshot}
+use Rattle.bars.specs.Bars.{Bar}
+use Rattle.gates.specs.Gates.{barring, long_snapshot}
 use Rattle.gates.proofs.Passing.{Fails}
 use Rattle.step_begins.specs.Beginning.{begin_bars, begin_own, edit_bars, edit_own}
 use Rattle.step_asks.specs.Asks.{ask_structure_own, ask_update_own}
@@ -66,7 +67,7 @@ module _ (r : Record) where
   pub refuses : {c : Call} (why : Refusal) → Leaf r c (refuse why r)
   refuses {c} why = kept (unseen c why) (λ l. l)
 
-  barred : {c : Call} (bs : List Bar) {done : Told} → (Fails bs → Leaf r c done) → Leaf r c (barring bs r done)
+  barred : {c : Call} (bs : List (Bar Refusal)) {done : Told} → (Fails bs → Leaf r c done) → Leaf r c (barring bs r done)
   barred {c} = row (Leaf r c) r refuses
 
   split : {c : Call} {x y : Told} (b : Bool) → (b ≡ true → Leaf r c x) → (b ≡ false → Leaf r c y) → Leaf r c (pick b x y)

@@ -11,7 +11,6 @@ use Rattle.phases.specs.Phases.{has_successor, successor}
 use Rattle.record.specs.Fields.{with_place}
 use Rattle.record.specs.declared.Record.{Record}
 use Rattle.step_structure.specs.Structure.{onward, advanced}
-use Rattle.step_undos.specs.Undos.{least}
 use Rattle.demand_steps.proofs.Leaf.{Apart, Updates, Goes}
 use Rattle.demand_steps.proofs.Leaf.Goes.{last, more}
 use Rattle.demand_steps.proofs.Facts.{Stage, tests, by_case}
@@ -35,10 +34,6 @@ pub record Turn (p to q : ℕ) : Type 0 where
 pub turn : (p to : ℕ) → Turn p to (pick (leb 1 p and leb p 7) to p)
 unfolding pick ◌and◌
 turn p to = record { goes = λ h g. rw (le-leb 1 p h, le-leb p 7 g); flat = λ e. rw e; stays = λ h. simp (le-leb 1 p (omega arith), lt-leb p 7 (omega arith)) }
-
-pub least_min : (a b : ℕ) → least a b ≡ min a b
-unfolding least pick
-least_min a b = by_case a b (λ (h : a < b). rw (lt-ltb a b h) (omega arith)) (λ (h : b ≤ a). rw (le-ltb a b h) (omega arith))
 
 -- "Done goes to the successor, raises forward (phases 1 to 6) or back (9 to 12)"
 module _ (r : Record) (s : has_successor r.phase.number ≡ true) where

@@ -12,10 +12,12 @@ use Rattle.answers.specs.declared.Answer.TheVariants.{Refused}
 use Rattle.answers.specs.declared.Refusal.{Refusal}
 use Rattle.answers.specs.declared.Refusal.TheVariants.{Damaged, Pending}
 use Rattle.wholeness.specs.Whole.{whole}
-use Rattle.gates.specs.Gates.{gate_of, gated, Bar, barring}
-use Rattle.gates.specs.declared.Gate.{Gate}
-use Rattle.gates.specs.declared.Gate.TheVariants.{Open, Shut}
-use Rattle.gates.proofs.Passing.{passed, Clear, Fails, fails}
+use Rattle.bars.specs.Bars.{Bar}
+use Rattle.gates.specs.Gates.{gate_of, gated, barring}
+use Rattle.gates.proofs.Passing.{Gate}
+use Rattle.std.specs.Prelude.{Ok, Err}
+use Rattle.bars.proofs.Passing.{Clear}
+use Rattle.gates.proofs.Passing.{passed, Fails, fails}
 use Rattle.step_begins.specs.Beginning.{begin_own, edit_own}
 use Rattle.step_asks.specs.Asks.{ask_structure_own, ask_update_own}
 use Rattle.step_rollbacks.specs.Rollbacks.{ask_rollback_own}
@@ -56,7 +58,7 @@ pub data Behind (sized sound : Bool) (r : Record) (c : Call) : Type 0 where
 
 module _ (r : Record) where
   unlent_by : (w b : Bool) (x y : Said) →
-      told (pick (not w) (says (Refused Damaged)) (pick b x y)) r ≡ gated (pick w Open (Shut Damaged)) r (pick b (told x r) (told y r))
+      told (pick (not w) (says (Refused Damaged)) (pick b x y)) r ≡ gated (pick w (Ok tt) (Err Damaged)) r (pick b (told x r) (told y r))
   unfolding pick gated
   unlent_by true true x y = refl
   unlent_by true false x y = refl
@@ -93,17 +95,17 @@ module _ (r : Record) where
 
 module _ (P : Told → Type 0) (r : Record) (refuses : (why : Refusal) → P (refuse why r)) where
   -- a call's own refusals in a row, and what is done where none is given: where the test of each, by its name, fails
-  in_row : (bs : List Bar) {done : Told} → (Clear bs → P done) → P (barring bs r done)
+  in_row : (bs : List (Bar Refusal)) {done : Told} → (Clear bs → P done) → P (barring bs r done)
   in_row [] f = f refl
   in_row (b ∷ bs) f = picked P b.test (λ e. refuses b.why) (λ e. in_row bs (λ x. f (e, x)))
 
-  pub row : (bs : List Bar) {done : Told} → (Fails bs → P done) → P (barring bs r done)
+  pub row : (bs : List (Bar Refusal)) {done : Told} → (Fails bs → P done) → P (barring bs r done)
   row bs f = in_row bs (λ x. f (fails bs x))
 
-  at_gate : {done : Told} (g : Gate) → (g ≡ Open → P done) → P (gated g r done)
+  at_gate : {done : Told} (g : Gate) → (g ≡ Ok tt → P done) → P (gated g r done)
   unfolding gated
-  at_gate Open f = f refl
-  at_gate (Shut why) f = refuses why
+  at_gate (Ok u) f = f refl
+  at_gate (Err why) f = refuses why
 
   -- a call, whatever it is lent
   by_gate : {sized sound : Bool} {c : Call} → Behind sized sound r c → (whole r ≡ true → P (own r c)) → P (step_with sized sound r c)

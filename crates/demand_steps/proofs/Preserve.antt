@@ -18,7 +18,7 @@ use Rattle.demand_steps.proofs.Leaf.Leaf.{kept, began, structure_asked, update_e
 use Rattle.demand_steps.proofs.Facts.{Stage, Whole}
 use Rattle.demand_steps.proofs.Facts.Stage.{flat, before}
 use Rattle.demand_steps.proofs.Facts.Calm.{on}
-use Rattle.demand_steps.proofs.Moves.{choice, turn, least_min, in_batch, in_undo, raised, turned_none, turned_some, lowered, all_tried}
+use Rattle.demand_steps.proofs.Moves.{choice, turn, in_batch, in_undo, raised, turned_none, turned_some, lowered, all_tried}
 use Rattle.demand_steps.proofs.Tickets.{on_structure, on_update, on_rollback, ended}
 use Rattle.demand_steps.proofs.Calming.{busy, quietly, hush, room, range, raises}
 use Rattle.demand_steps.proofs.Advancing.{advances, idles}
@@ -81,7 +81,7 @@ preserve w (update_taken t l g) = let y = on_update w l in record {
 }
 preserve {r} w (undo_taken t l g) = let y = on_rollback w l in let u = in_undo w.stage y.behind y.some in record {
   lengths = w.lengths;
-  size = omega (arith, w.size, y.some, all_tried u, least_min r.applied (r.entries - 1));
+  size = omega (arith, w.size, y.some, all_tried u);
   stage = lowered g u y.behind (omega (arith, all_tried u));
   ticket = tt;
   calm = busy w.calm (λ z m i. omega (arith, y.some));

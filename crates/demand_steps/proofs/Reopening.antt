@@ -7,7 +7,9 @@ use Rattle.choice.proofs.Tests.{never}
 use Rattle.answers.specs.Classes.{successful}
 use Rattle.record.specs.Answers.{Told}
 use Rattle.record.specs.declared.Record.{Record}
-use Rattle.gates.specs.Gates.{Bar, barring, long_snapshot}
+use Rattle.answers.specs.declared.Refusal.{Refusal}
+use Rattle.bars.specs.Bars.{Bar}
+use Rattle.gates.specs.Gates.{barring, long_snapshot}
 use Rattle.step_opens.specs.Opening.{opening}
 use Rattle.step_ends.specs.Ending.{after_commit, commit_bars, commit_own}
 use Rattle.step_recoveries.specs.Recovering.{after_recovery, recover_bars, recover_own, recover_retained_own}
@@ -19,7 +21,7 @@ abbrev Opens : Record → Told → Type 0
 Opens to x = successful x.class ≡ true → x.state ≡ to
 
 module _ (r : Record) where
-  ends : {to : Record} (c : Call) (bs : List Bar) (done : Told) → own r c ≡ barring bs r done → done.state ≡ to → Opens to (step r c)
+  ends : {to : Record} (c : Call) (bs : List (Bar Refusal)) (done : Told) → own r c ≡ barring bs r done → done.state ≡ to → Opens to (step r c)
   ends {to} c bs done e p =
       answers (Opens to) r (λ why h. never (sym h)) true true c (λ w. subst (Opens to) (sym e) (row (Opens to) r (λ why h. never (sym h)) bs (λ x h. p)))
 

@@ -18,8 +18,8 @@ use Rattle.record.specs.Leaves.{Leaves, leaves, moving}
 use Rattle.record.specs.declared.Record.{Record}
 use Rattle.record.specs.declared.Findings.{Findings}
 use Rattle.gates.specs.Gates.{gate_of, gated}
-use Rattle.gates.specs.declared.Gate.{Gate}
-use Rattle.gates.specs.declared.Gate.TheVariants.{Open, Shut}
+use Rattle.gates.proofs.Passing.{Gate}
+use Rattle.std.specs.Prelude.{Ok, Err}
 use Rattle.gates.proofs.Passing.{passed}
 use Rattle.moves.proofs.Laws.{three, in_turn}
 
@@ -48,10 +48,10 @@ module _ (r : Record) (own : Told) where
   fitting fit = by (of_sizes fit)
 
   -- one that is not refused has passed its gate
-  went : (g : Gate) → refused (gated g r own).class ≡ false → g ≡ Open
+  went : (g : Gate) → refused (gated g r own).class ≡ false → g ≡ Ok tt
   unfolding gated
-  went Open h = refl
-  went (Shut why) h = never h
+  went (Ok u) h = refl
+  went (Err why) h = never h
 
   -- so that what it moves goes by the right sizes
   same : (fit : Bool) (lent : List (List ℕ)) {m n : List (List ℕ)} → (fit ≡ true → m ≡ n) → moving (fitting fit) lent m ≡ moving (fitting fit) lent n

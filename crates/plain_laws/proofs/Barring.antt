@@ -7,21 +7,23 @@ use Rattle.choice.proofs.Tests.{test}
 use Rattle.record.specs.Answers.{Told, refuse}
 use Rattle.record.specs.declared.Record.{Record}
 use Rattle.answers.specs.declared.Refusal.{Refusal}
-use Rattle.gates.specs.Gates.{Bar, barring}
-use Rattle.gates.proofs.Passing.{Clear, Fails, fails}
+use Rattle.bars.specs.Bars.{Bar}
+use Rattle.gates.specs.Gates.{barring}
+use Rattle.bars.proofs.Passing.{Clear}
+use Rattle.gates.proofs.Passing.{Fails, fails}
 
 -- one of them, or one before them
-unfoldable pub one_of : Bool → List Bar → Bool
+unfoldable pub one_of : Bool → List (Bar Refusal) → Bool
 one_of a [] = a
 one_of a (b ∷ bs) = one_of (a or b.test) bs
 
-held : (bs : List Bar) → one_of true bs ≡ true
+held : (bs : List (Bar Refusal)) → one_of true bs ≡ true
 unfolding one_of ◌or◌
 held [] = refl
 held (b ∷ bs) = held bs
 
 module _ (P : Bool → Told → Type 0) (r : Record) (refuses : (why : Refusal) → P true (refuse why r)) where
-  in_row : (bs : List Bar) {done : Told} → (Clear bs → P false done) → P (one_of false bs) (barring bs r done)
+  in_row : (bs : List (Bar Refusal)) {done : Told} → (Clear bs → P false done) → P (one_of false bs) (barring bs r done)
   unfolding one_of ◌or◌ pick
   in_row [] f = f refl
   in_row (b ∷ bs) f =
@@ -29,5 +31,5 @@ module _ (P : Bool → Told → Type 0) (r : Record) (refuses : (why : Refusal) 
       (λ e. rw (e, held bs) (refuses b.why))
       (λ e. rw e (in_row bs (λ x. f (e, x))))
 
-  pub one_test : (bs : List Bar) {done : Told} (b : Bool) → b ≡ one_of false bs → (Fails bs → P false done) → P b (barring bs r done)
+  pub one_test : (bs : List (Bar Refusal)) {done : Told} (b : Bool) → b ≡ one_of false bs → (Fails bs → P false done) → P b (barring bs r done)
   one_test bs b e f = rw e (in_row bs (λ x. f (fails bs x)))

@@ -16,7 +16,9 @@ use Rattle.record.specs.declared.Outcome.{Outcome}
 use Rattle.record.specs.declared.Outcome.TheVariants.{Waiting, Failed, Done}
 use Rattle.tickets.specs.Live as Live
 use Rattle.tickets.specs.declared.Live.{Live}
-use Rattle.gates.specs.Gates.{Bar, barring}
+use Rattle.answers.specs.declared.Refusal.{Refusal}
+use Rattle.bars.specs.Bars.{Bar}
+use Rattle.gates.specs.Gates.{barring}
 use Rattle.gates.proofs.Passing.{Fails}
 use Rattle.reporting.specs.Reporting as Reporting
 use Rattle.step_structure.specs.Structure.{storing, report_structure_bars, report_structure_own}
@@ -71,7 +73,7 @@ module _ {t : Taken} {w : Watch} {r : Record} (x : Agrees t w r) where
     next of = Follows w (report of ticket y)
 
     -- refused where one of the bars holds, else by its outcome
-    by-bars : (of : Report) (bs : List Bar) (barred : Bool) {g : Taken} {done : Told} → g ≡ pick barred t (reported y (spends t)) → barred ≡ one_of false bs →
+    by-bars : (of : Report) (bs : List (Bar Refusal)) (barred : Bool) {g : Taken} {done : Told} → g ≡ pick barred t (reported y (spends t)) → barred ≡ one_of false bs →
         (Fails bs → next of (reported y (spends t)) done) → next of g (barring bs r done)
     unfolding pick
     by-bars of bs barred {done = done} e h f =

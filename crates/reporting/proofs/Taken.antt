@@ -12,12 +12,15 @@ use Rattle.record.specs.Answers.{Told}
 use Rattle.record.specs.Given.{Effect}
 use Rattle.record.specs.declared.Record.{Record}
 use Rattle.answers.specs.declared.Refusal.TheVariants.{Stale}
-use Rattle.gates.specs.Gates.{gate_of, Bar, through}
-use Rattle.gates.specs.declared.Gate.{Gate}
-use Rattle.gates.specs.declared.Gate.TheVariants.{Open}
+use Rattle.answers.specs.declared.Refusal.{Refusal}
+use Rattle.bars.specs.Bars.{Bar, through}
+use Rattle.gates.specs.Gates.{gate_of}
+use Rattle.gates.proofs.Passing.{Gate}
+use Rattle.std.specs.Prelude.{Ok}
 use Rattle.wholeness.proofs.Facts.{Parts, counts_of, forward_small, back_small, live_rollback, restoring_all}
 use Rattle.gates.proofs.Behind.{behind}
-use Rattle.gates.proofs.Passing.{Clear, clear, fails}
+use Rattle.bars.proofs.Passing.{Clear, clear}
+use Rattle.gates.proofs.Passing.{fails}
 use Rattle.reporting.specs.Reporting.{stale, reported}
 
 holds : {b : Bool} → not b ≡ false → b ≡ true
@@ -25,8 +28,8 @@ holds {b = true} h = refl
 holds {b = false} h = never h
 
 -- behind the gate g of a report, found open
-module _ {g : Gate} (sized sound : Bool) (r : Record) (bs : List Bar) (e : g ≡ through (gate_of sized sound r) bs) (h : g ≡ Open) where
-  passes : (gate_of sized sound r ≡ Open) × Clear bs
+module _ {g : Gate} (sized sound : Bool) (r : Record) (bs : List (Bar Refusal)) (e : g ≡ through (gate_of sized sound r) bs) (h : g ≡ Ok tt) where
+  passes : (gate_of sized sound r ≡ Ok tt) × Clear bs
   passes = clear (gate_of sized sound r) bs (sym e ∙ h)
 
   tested : Parts r
@@ -42,7 +45,7 @@ module _ {g : Gate} (sized sound : Bool) (r : Record) (bs : List Bar) (e : g ≡
 
 -- a rollback report has an action to take off
 pub rollback_room : {g : Gate} (sized sound : Bool) (r : Record) (ticket : ℕ) → g ≡ through (gate_of sized sound r) (stale rollback ticket r [])
-    → g ≡ Open → (0 < r.entries) × (0 < r.attempted)
+    → g ≡ Ok tt → (0 < r.entries) × (0 < r.attempted)
 rollback_room sized sound r ticket e h =
     let bs = stale rollback ticket r [] in
     let t = tested sized sound r bs e h in

@@ -5,7 +5,9 @@ use Rattle.choice.specs.Pick.{pick, ◌or◌}
 use Rattle.phases.specs.Phases.{none, updates, ready, undo, recovered}
 use Rattle.record.specs.Fields.{with_batch, adopting}
 use Rattle.record.specs.Answers.{Told, answer}
-use Rattle.gates.specs.Gates.{gate_of, gated, Bar, ◌whenever◌, barring}
+use Rattle.answers.specs.declared.Refusal.{Refusal}
+use Rattle.bars.specs.Bars.{Bar, ◌whenever◌}
+use Rattle.gates.specs.Gates.{gate_of, gated, barring}
 use Rattle.issuing.specs.Issuing.{issue, worn}
 use Rattle.record.specs.declared.Record.{Record}
 use Rattle.tickets.specs.declared.Live.TheVariants.{Structure, Update}
@@ -13,11 +15,11 @@ use Rattle.answers.specs.declared.Answer.TheVariants.{Finished}
 use Rattle.answers.specs.declared.Refusal.TheVariants.{NotReady, Recovering, Worn}
 
 -- "11"
-abbrev pub worn_bars : Record → List Bar
+abbrev pub worn_bars : Record → List (Bar Refusal)
 worn_bars r = Worn whenever worn r ∷ []
 
 -- "Ask structure: phases 0, 5, 8 give 4; 7 and 13 give Finished; else 11, or a ticket"
-abbrev pub ask_structure_bars : Record → List Bar
+abbrev pub ask_structure_bars : Record → List (Bar Refusal)
 ask_structure_bars r =
     NotReady whenever (eqb r.phase.number none or eqb r.phase.number updates or eqb r.phase.number undo) ∷ []
 
@@ -34,7 +36,7 @@ started r = with_batch r.entries r.applied (r.applied + 1) r.restoring r
 
 -- "Ask update: phase neither 0 nor 5, or restoring, gives 5; applied = entries gives Finished, and phase 5 becomes 6; else 11,
 -- or a ticket, and attempted becomes applied + 1."
-abbrev pub ask_update_bars : Record → List Bar
+abbrev pub ask_update_bars : Record → List (Bar Refusal)
 ask_update_bars r = Recovering whenever (not (eqb r.phase.number none or eqb r.phase.number updates) or r.restoring) ∷ []
 
 unfoldable pub ask_update_own : Record → Told

@@ -6,7 +6,9 @@ use Rattle.batch.specs.Batch.{limit}
 use Rattle.record.specs.Fields.{top}
 use Rattle.record.specs.Fields.{with_place, with_batch, with_staged, with_lengths, spent}
 use Rattle.record.specs.Answers.{Told, answer}
-use Rattle.gates.specs.Gates.{gate_of, gated, Bar, ◌whenever◌, barring, long_payloads}
+use Rattle.answers.specs.declared.Refusal.{Refusal}
+use Rattle.bars.specs.Bars.{Bar, ◌whenever◌}
+use Rattle.gates.specs.Gates.{gate_of, gated, barring, long_payloads}
 use Rattle.record.specs.declared.Record.{Record}
 use Rattle.record.specs.declared.Beginning.{Beginning}
 use Rattle.answers.specs.declared.Answer.TheVariants.{Done}
@@ -25,7 +27,7 @@ begun phase b r =
 
 -- "Begin, begin structural: 1, 3, 8, 9.", with 14 and 15 in the place of 8; request 3: "Capacity when that count is at the u64 maximum,
 -- after Pending"
-abbrev pub begin_bars : Record → Beginning → List Bar
+abbrev pub begin_bars : Record → Beginning → List (Bar Refusal)
 begin_bars r b =
     Pending whenever r.staged
     ∷ Capacity whenever (eqb r.revision top or eqb r.replacements top)
@@ -41,7 +43,7 @@ abbrev pub begin_step : Bool → Bool → Bool → Record → Beginning → Told
 begin_step sized sound structural r b = gated (gate_of sized sound r) r (begin_own structural r b)
 
 -- "Edit replaces both payloads: 2, 8. All else, phase included, is kept.", with 14 and 15 in the place of 8
-abbrev pub edit_bars : Record → ℕ → ℕ → List Bar
+abbrev pub edit_bars : Record → ℕ → ℕ → List (Bar Refusal)
 edit_bars r candidate recovery = Idle whenever not r.staged ∷ long_payloads candidate recovery []
 
 unfoldable pub edit_own : Record → ℕ → ℕ → Told

@@ -7,14 +7,16 @@ use Rattle.record.specs.Fields.{top, with_lengths, with_replacements}
 use Rattle.record.specs.Given.{at, opening}
 use Rattle.record.specs.declared.Opening.{Opening}
 use Rattle.record.specs.Answers.{Told, answer}
-use Rattle.gates.specs.Gates.{gate_of, gated, Bar, ◌whenever◌, barring, long_snapshot}
+use Rattle.answers.specs.declared.Refusal.{Refusal}
+use Rattle.bars.specs.Bars.{Bar, ◌whenever◌}
+use Rattle.gates.specs.Gates.{gate_of, gated, barring, long_snapshot}
 use Rattle.record.specs.declared.Record.{Record}
 use Rattle.answers.specs.declared.Answer.TheVariants.{Done}
 use Rattle.answers.specs.declared.Was.TheVariants.{One, Three}
 use Rattle.answers.specs.declared.Refusal.TheVariants.{Pending, Idle, Capacity, NotReady}
 
 -- "Commit: 2; 4 if not complete or phase not 0 or 7."
-abbrev pub commit_bars : Record → List Bar
+abbrev pub commit_bars : Record → List (Bar Refusal)
 commit_bars r =
     Idle whenever not r.staged
     ∷ NotReady whenever (not (complete r) or not (eqb r.phase.number none or eqb r.phase.number ready))
@@ -32,7 +34,7 @@ commit_own r =
     (answer (Done (Three r.accepted r.recovery r.entries)) (opening (after_commit r) r.candidate))
 
 -- "Refresh: 1, 8", with 16 in the place of 8; request 3: "Capacity when that count is at the u64 maximum, after Pending"
-abbrev pub refresh_bars : Record → ℕ → List Bar
+abbrev pub refresh_bars : Record → ℕ → List (Bar Refusal)
 refresh_bars r length = Pending whenever r.staged ∷ Capacity whenever eqb r.replacements top ∷ long_snapshot length []
 
 -- the accepted length and the count alone

@@ -4,7 +4,9 @@ use Rattle.choice.specs.Pick.{◌or◌}
 use Rattle.phases.specs.Phases.{none, recovered}
 use Rattle.record.specs.Given.{at, opening}
 use Rattle.record.specs.Answers.{Told, answer}
-use Rattle.gates.specs.Gates.{gate_of, gated, Bar, ◌whenever◌, barring, long_snapshot}
+use Rattle.answers.specs.declared.Refusal.{Refusal}
+use Rattle.bars.specs.Bars.{Bar, ◌whenever◌}
+use Rattle.gates.specs.Gates.{gate_of, gated, barring, long_snapshot}
 use Rattle.record.specs.declared.Record.{Record}
 use Rattle.record.specs.declared.Opening.{Opening}
 use Rattle.answers.specs.declared.Answer.TheVariants.{Done}
@@ -16,7 +18,7 @@ unfoldable pub unrestored : Record → Bool
 unrestored r = ltb 0 r.entries or not (eqb r.phase.number none or eqb r.phase.number recovered)
 
 -- of both recoveries: "2; 4 if .."
-abbrev pub recover_bars : Record → List Bar → List Bar
+abbrev pub recover_bars : Record → List (Bar Refusal) → List (Bar Refusal)
 recover_bars r next = Idle whenever not r.staged ∷ NotReady whenever unrestored r ∷ next
 
 -- request 3: "a count of replacements, raised by commit, both recoveries and refresh"

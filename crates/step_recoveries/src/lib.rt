@@ -5,11 +5,11 @@ ghost use Rattle.std.specs.Prelude.{[], ◌≡◌, ◌<◌};
 ghost use Rattle.record.specs.Fields.{top};
 ghost use Rattle.record.specs.Answers.{tells};
 ghost use Rattle.step_recoveries.specs.Recovering.{unrestored, recovered_to, recover_bars, recover_step, recover_retained_step};
-ghost use Rattle.gates.specs.Gates.{gate_of, gated, through};
-ghost use Rattle.gates.specs.declared.Gate.TheVariants.{Open};
+ghost use Rattle.bars.specs.Bars.{through};
+ghost use Rattle.gates.specs.Gates.{gate_of, long_snapshot};
 
 use answers::{Answer, Refusal, Was};
-use gates::Gate;
+use bars::bar;
 use phases::Phase;
 use record::{Findings, Opening, Record, Stepped};
 
@@ -21,22 +21,29 @@ fn unrestored(r: Record) -> bool
 }
 
 // The refusals of both recoveries, in their order.
-fn recover_gate(r: Record, found: Findings) -> Gate
+#[tactic(auto, using(bars::proofs::Passing::rows))]
+fn recover_gate(r: Record, found: Findings) -> Result<(), Refusal>
     ensures { result ≡ through (gate_of found.sized found.sound r) (recover_bars r []) }
 {
-    gates::admit(r, found)
-        .bar(!r.staged, Refusal::Idle)
-        .bar(unrestored(r), Refusal::NotReady)
+    gates::admit(r, found)?;
+    bar(!r.staged, Refusal::Idle)?;
+    bar(unrestored(r), Refusal::NotReady)
+}
+
+// A snapshot's length is asked last.
+#[tactic(auto, using(bars::proofs::Passing::rows))]
+fn snapshot_gate(r: Record, found: Findings, length: usize) -> Result<(), Refusal>
+    ensures { result ≡ through (gate_of found.sized found.sound r) (recover_bars r (long_snapshot length [])) }
+{
+    recover_gate(r, found)?;
+    gates::bar_snapshot(length)
 }
 
 // What both recoveries do behind their gates: a payload of a length becomes the accepted one. Behind them the count has room.
-fn recovered(r: Record, gate: Gate, accepted: usize) -> Stepped
-    requires { gate ≡ Open → r.replacements < top }
-    ensures { tells result ≡ gated gate r (recovered_to accepted r) }
+fn recovered(r: Record, accepted: usize) -> Stepped
+    requires { r.replacements < top }
+    ensures { tells result ≡ recovered_to accepted r }
 {
-    if let Gate::Shut(why) = gate {
-        return r.refuse(why);
-    }
     let was = Was::Three(r.accepted, r.candidate, r.recovery);
     let given = Opening {
         revision: r.revision,
@@ -50,12 +57,18 @@ fn recovered(r: Record, gate: Gate, accepted: usize) -> Stepped
 pub fn recover(r: Record, found: Findings, length: usize) -> Stepped
     ensures { tells result ≡ recover_step found.sized found.sound r length }
 {
-    recovered(r, recover_gate(r, found).bar_snapshot(length), length)
+    if let Err(why) = snapshot_gate(r, found, length) {
+        return r.refuse(why);
+    }
+    recovered(r, length)
 }
 
 // The retained recovery payload becomes the accepted one.
 pub fn recover_retained(r: Record, found: Findings) -> Stepped
     ensures { tells result ≡ recover_retained_step found.sized found.sound r }
 {
-    recovered(r, recover_gate(r, found), r.recovery)
+    if let Err(why) = recover_gate(r, found) {
+        return r.refuse(why);
+    }
+    recovered(r, r.recovery)
 }

@@ -4,7 +4,8 @@ use Rattle.choice.specs.Pick.{pick, ◌and◌}
 use Rattle.phases.specs.Phases.{remove, ready, undo, recover_remove}
 use Rattle.record.specs.Fields.{with_place, with_batch, spent}
 use Rattle.record.specs.Answers.{Told, answer}
-use Rattle.gates.specs.Gates.{gate_of, gated, ◌whenever◌, barring}
+use Rattle.bars.specs.Bars.{◌whenever◌}
+use Rattle.gates.specs.Gates.{gate_of, gated, barring}
 use Rattle.issuing.specs.Issuing.{issue, worn}
 use Rattle.record.specs.declared.Record.{Record}
 use Rattle.tickets.specs.declared.Live.TheVariants.{Rollback}

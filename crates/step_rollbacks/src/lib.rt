@@ -6,7 +6,6 @@ ghost use Rattle.record.specs.Answers.{tells};
 ghost use Rattle.step_rollbacks.specs.Rollbacks.{ask_rollback_step, turned};
 
 use answers::{Answer, Refusal};
-use gates::Gate;
 use issuing::issue;
 use phases::Phase;
 use record::{Findings, Record, Stepped};
@@ -29,8 +28,7 @@ fn turned(r: Record, to: u8) -> Record
 pub fn ask_rollback(r: Record, found: Findings) -> Stepped
     ensures { tells result ≡ ask_rollback_step found.sized found.sound r }
 {
-    let gate = gates::admit(r, found);
-    if let Gate::Shut(why) = gate {
+    if let Err(why) = gates::admit(r, found) {
         return r.refuse(why);
     }
     if Phase::RECOVER_REMOVE <= r.phase.number {

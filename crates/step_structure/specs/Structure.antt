@@ -9,7 +9,9 @@ use Rattle.tickets.specs.Live.{structure}
 use Rattle.record.specs.Fields.{with_place, with_lengths, spent}
 use Rattle.record.specs.Answers.{Told, answer}
 use Rattle.record.specs.Given.{effect_of}
-use Rattle.gates.specs.Gates.{gate_of, gated, Bar, barring, long_payloads}
+use Rattle.answers.specs.declared.Refusal.{Refusal}
+use Rattle.bars.specs.Bars.{Bar}
+use Rattle.gates.specs.Gates.{gate_of, gated, barring, long_payloads}
 use Rattle.reporting.specs.Reporting.{stale, reported}
 use Rattle.record.specs.declared.Record.{Record}
 use Rattle.record.specs.declared.Outcome.{Outcome}
@@ -34,7 +36,7 @@ abbrev pub storing : ℕ → ℕ → Record → Record
 storing candidate recovery r = with_lengths r.accepted candidate recovery r
 
 -- "Report structure (both payloads): 10, 8.", with 14 and 15 in the place of 8
-abbrev pub report_structure_bars : Record → ℕ → ℕ → ℕ → List Bar
+abbrev pub report_structure_bars : Record → ℕ → ℕ → ℕ → List (Bar Refusal)
 report_structure_bars r ticket candidate recovery = stale structure ticket r (long_payloads candidate recovery [])
 
 unfoldable pub report_structure_own : Record → ℕ → Outcome → ℕ → ℕ → Told

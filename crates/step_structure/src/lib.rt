@@ -3,11 +3,12 @@
 #![tactic(auto)]
 
 ghost use Rattle.std.specs.Prelude.{◌≡◌, ◌≤◌};
+ghost use Rattle.bars.specs.Bars.{through};
+ghost use Rattle.gates.specs.Gates.{gate_of};
 ghost use Rattle.record.specs.Answers.{tells};
-ghost use Rattle.step_structure.specs.Structure.{advanced, structure_done, report_structure_step};
+ghost use Rattle.step_structure.specs.Structure.{advanced, structure_done, report_structure_bars, report_structure_step};
 
-use answers::Answer;
-use gates::Gate;
+use answers::{Answer, Refusal};
 use phases::{Next, Phase};
 use record::{Findings, Record, Reporting, Stepped};
 use reporting::{report_gate, reported};
@@ -44,6 +45,21 @@ fn structure_done(r: Record) -> Stepped
     next.answering(Answer::More)
 }
 
+// The refusals of a report of structure work, in their order.
+#[tactic(auto, using(bars::proofs::Passing::rows))]
+fn structure_gate(
+    r: Record,
+    found: Findings,
+    given: Reporting,
+    candidate: usize,
+    recovery: usize,
+) -> Result<(), Refusal>
+    ensures { result ≡ through (gate_of found.sized found.sound r) (report_structure_bars r given.ticket candidate recovery) }
+{
+    report_gate(r, found, Live::STRUCTURE, given)?;
+    gates::bar_payloads(candidate, recovery)
+}
+
 // A report of structure work, with the lengths of the candidate and recovery payloads that it stores.
 pub fn report_structure(
     r: Record,
@@ -54,13 +70,10 @@ pub fn report_structure(
 ) -> Stepped
     ensures { tells result ≡ report_structure_step found.sized found.sound r given.ticket given.outcome candidate recovery }
 {
-    let gate = report_gate(r, found, Live::STRUCTURE, given).bar_payloads(candidate, recovery);
-    if let Gate::Shut(why) = gate {
+    if let Err(why) = structure_gate(r, found, given, candidate, recovery) {
         return r.refuse(why);
     }
-    let mut stored = r;
-    stored.candidate = candidate;
-    stored.recovery = recovery;
+    let stored = Record { candidate, recovery, ..r };
     let spent = stored.with_ticket(r.serial, Live::None);
     reported(spent, given, structure_done(spent))
 }

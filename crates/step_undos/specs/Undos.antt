@@ -1,24 +1,23 @@
 -- Document 01, "The steps": report rollback, with its own refusal behind the gate for 6 and 7; before it what a Done report does to the
 -- record, once its ticket is taken. Assumes nothing.
-use Rattle.std.specs.Prelude.{ℕ, ◌-◌, Bool, List, [], eqb, ltb}
+use Rattle.std.specs.Prelude.{ℕ, ◌-◌, min, Bool, List, [], eqb}
 use Rattle.choice.specs.Pick.{pick}
 use Rattle.phases.specs.Phases.{undo, recover_remove}
 use Rattle.tickets.specs.Live.{rollback}
 use Rattle.record.specs.Fields.{with_place, with_batch, spent}
 use Rattle.record.specs.Answers.{Told, answer}
 use Rattle.record.specs.Given.{effect_of}
-use Rattle.gates.specs.Gates.{gate_of, gated, Bar, barring}
+use Rattle.answers.specs.declared.Refusal.{Refusal}
+use Rattle.bars.specs.Bars.{Bar}
+use Rattle.gates.specs.Gates.{gate_of, gated, barring}
 use Rattle.reporting.specs.Reporting.{stale, reported}
 use Rattle.record.specs.declared.Record.{Record}
 use Rattle.record.specs.declared.Outcome.{Outcome}
 use Rattle.answers.specs.declared.Answer.TheVariants.{More, Finished}
 
-unfoldable pub least : ℕ → ℕ → ℕ
-least a b = pick (ltb a b) a b
-
 -- "Done takes that action off: entries and attempted fall, applied is at most entries"
 abbrev pub lowered : Record → Record
-lowered r = with_batch (r.entries - 1) (least r.applied (r.entries - 1)) (r.attempted - 1) r.restoring r
+lowered r = with_batch (r.entries - 1) (min r.applied (r.entries - 1)) (r.attempted - 1) r.restoring r
 
 -- "phase 8 becomes 9"
 unfoldable pub leaving : Record → Record
@@ -29,7 +28,7 @@ unfoldable pub rollback_done : Record → Told
 rollback_done r = pick (eqb (r.entries - 1) 0) (answer Finished (leaving (lowered r))) (answer More (lowered r))
 
 -- "Report rollback (payload of the last action): 10."
-abbrev pub report_rollback_bars : Record → ℕ → List Bar
+abbrev pub report_rollback_bars : Record → ℕ → List (Bar Refusal)
 report_rollback_bars r ticket = stale rollback ticket r []
 
 unfoldable pub report_rollback_own : Record → ℕ → Outcome → Told

@@ -4,20 +4,13 @@
 
 ghost use Rattle.std.specs.Prelude.{◌≡◌, ◌<◌};
 ghost use Rattle.record.specs.Answers.{tells};
-ghost use Rattle.step_undos.specs.Undos.{least, leaving, rollback_done, report_rollback_step};
+ghost use Rattle.step_undos.specs.Undos.{leaving, rollback_done, report_rollback_step};
 
 use answers::Answer;
-use gates::Gate;
 use phases::Phase;
 use record::{Findings, Record, Reporting, Stepped};
 use reporting::{report_gate, reported};
 use tickets::Live;
-
-fn least(a: u32, b: u32) -> u32
-    ensures { result ≡ least a b }
-{
-    if a < b { a } else { b }
-}
 
 // Once every action is undone, phase 8 becomes 9.
 fn leaving(mut r: Record) -> Record
@@ -36,8 +29,8 @@ fn rollback_done(mut r: Record) -> Stepped
 {
     let left = r.entries - 1;
     r.entries = left;
-    r.attempted = r.attempted - 1;
-    r.applied = least(r.applied, left);
+    r.attempted -= 1;
+    r.applied = r.applied.min(left);
     if left == 0 {
         return leaving(r).answering(Answer::Finished);
     }
@@ -48,8 +41,7 @@ fn rollback_done(mut r: Record) -> Stepped
 pub fn report_rollback(r: Record, found: Findings, given: Reporting) -> Stepped
     ensures { tells result ≡ report_rollback_step found.sized found.sound r given.ticket given.outcome }
 {
-    let gate = report_gate(r, found, Live::ROLLBACK, given);
-    if let Gate::Shut(why) = gate {
+    if let Err(why) = report_gate(r, found, Live::ROLLBACK, given) {
         return r.refuse(why);
     }
     let spent = r.with_ticket(r.serial, Live::None);

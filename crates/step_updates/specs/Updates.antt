@@ -6,7 +6,9 @@ use Rattle.tickets.specs.Live.{update}
 use Rattle.record.specs.Fields.{with_batch, adopting, spent}
 use Rattle.record.specs.Answers.{Told, answer}
 use Rattle.record.specs.Given.{effect_of}
-use Rattle.gates.specs.Gates.{gate_of, gated, Bar, barring}
+use Rattle.answers.specs.declared.Refusal.{Refusal}
+use Rattle.bars.specs.Bars.{Bar}
+use Rattle.gates.specs.Gates.{gate_of, gated, barring}
 use Rattle.reporting.specs.Reporting.{stale, reported}
 use Rattle.record.specs.declared.Record.{Record}
 use Rattle.record.specs.declared.Outcome.{Outcome}
@@ -21,7 +23,7 @@ unfoldable pub update_done : Record → Told
 update_done r = pick (eqb (r.applied + 1) r.entries) (answer Finished (adopting (raised r))) (answer More (raised r))
 
 -- "Report update (payload of action number applied): 10."
-abbrev pub report_update_bars : Record → ℕ → List Bar
+abbrev pub report_update_bars : Record → ℕ → List (Bar Refusal)
 report_update_bars r ticket = stale update ticket r []
 
 unfoldable pub report_update_own : Record → ℕ → Outcome → Told

@@ -8,7 +8,6 @@ ghost use Rattle.record.specs.Answers.{tells};
 ghost use Rattle.step_updates.specs.Updates.{update_done, report_update_step};
 
 use answers::Answer;
-use gates::Gate;
 use record::{Findings, Record, Reporting, Stepped};
 use reporting::{report_gate, reported};
 use tickets::Live;
@@ -18,7 +17,7 @@ fn update_done(mut r: Record) -> Stepped
     requires { r.applied ≤ limit }
     ensures { tells result ≡ update_done r }
 {
-    r.applied = r.applied + 1;
+    r.applied += 1;
     if r.applied == r.entries {
         return r.adopting().answering(Answer::Finished);
     }
@@ -29,8 +28,7 @@ fn update_done(mut r: Record) -> Stepped
 pub fn report_update(r: Record, found: Findings, given: Reporting) -> Stepped
     ensures { tells result ≡ report_update_step found.sized found.sound r given.ticket given.outcome }
 {
-    let gate = report_gate(r, found, Live::UPDATE, given);
-    if let Gate::Shut(why) = gate {
+    if let Err(why) = report_gate(r, found, Live::UPDATE, given) {
         return r.refuse(why);
     }
     let spent = r.with_ticket(r.serial, Live::None);

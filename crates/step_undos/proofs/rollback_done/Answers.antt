@@ -17,14 +17,12 @@ off r a = with_batch (r.entries - 1) a (r.attempted - 1) r.restoring r
 pub returns-then-left-eq0 : goal.returns-then-left-eq0
 unfolding rollback_done
 returns-then-left-eq0 c =
-    let k = c in
-    let r = k.args.r in
+    let r = c.args.r in
     yes _ (eq-eqb _ _ c.if-left-eq0.true)
-    (c.answering.ensures ∙ ap (answer Finished) (c.leaving.ensures ∙ ap (λ (a : ℕ). leaving (off r a)) k.least.ensures))
+    (c.answering.ensures ∙ ap (answer Finished) (c.leaving.ensures ∙ ap (λ (a : ℕ). leaving (off r a)) c.min.ensures))
 
 pub returns : goal.returns
 unfolding rollback_done
 returns c =
-    let k = c in
-    let r = k.args.r in
-    no _ (ne_eqb _ _ c.if-left-eq0.false) (c.answering-2.ensures ∙ ap (λ (a : ℕ). answer More (off r a)) k.least.ensures)
+    let r = c.args.r in
+    no _ (ne_eqb _ _ c.if-left-eq0.false) (c.answering-2.ensures ∙ ap (λ (a : ℕ). answer More (off r a)) c.min.ensures)
