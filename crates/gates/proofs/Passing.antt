@@ -13,7 +13,7 @@ use Rattle.areas.proofs.Laws.{not_over}
 use Rattle.wholeness.specs.Whole.{whole}
 use Rattle.record.specs.Answers.{Told, refuse}
 use Rattle.answers.specs.Classes.{is}
-use Rattle.bars.specs.Bars.{Bar, barred, through}
+use Rattle.bars.specs.Bars.{Bar, through}
 use Rattle.bars.proofs.Passing.{Clear, apart}
 use Rattle.gates.specs.Gates.{gate_of, gated, barring, long_payloads}
 use Rattle.record.specs.declared.Record.{Record}

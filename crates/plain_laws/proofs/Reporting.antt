@@ -4,7 +4,7 @@ use mathlib.Core.Path.{◌≡◌, refl, sym, subst}
 use mathlib.Core.Bool.{Bool, true, false, not}
 use mathlib.Core.List.{List}
 use borrow.Author.Tests.{not-false}
-use Rattle.choice.specs.Pick.{pick, ◌and◌, ◌or◌}
+use Rattle.choice.specs.Pick.{pick, ◌or◌}
 use Rattle.areas.specs.Areas.{long}
 use Rattle.answers.specs.Classes.{takes}
 use Rattle.answers.specs.declared.Refusal.TheVariants.{Stale}

@@ -89,6 +89,10 @@ pub fn edit(r: Record, found: Findings, candidate: usize, recovery: usize) -> St
     if let Err(why) = edit_gate(r, found, candidate, recovery) {
         return r.refuse(why);
     }
-    let edited = Record { candidate, recovery, ..r };
+    let edited = Record {
+        candidate,
+        recovery,
+        ..r
+    };
     edited.answering(Answer::Done(Was::Nothing))
 }

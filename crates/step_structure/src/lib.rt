@@ -73,7 +73,11 @@ pub fn report_structure(
     if let Err(why) = structure_gate(r, found, given, candidate, recovery) {
         return r.refuse(why);
     }
-    let stored = Record { candidate, recovery, ..r };
+    let stored = Record {
+        candidate,
+        recovery,
+        ..r
+    };
     let spent = stored.with_ticket(r.serial, Live::None);
     reported(spent, given, structure_done(spent))
 }
