@@ -6,27 +6,27 @@ ghost use Rattle.std.specs.Prelude.{◌≡◌};
 ghost use Rattle.answers.specs.Classes.{refusal_number, refused, refusal_written, step_written};
 ghost use Rattle.answers.specs.Answers.{says};
 
-#[derive(Clone, Copy)]
+#[derive(Clone, Copy, PartialEq, Eq)]
 pub enum Refusal {
-    Pending,
-    Idle,
-    Capacity,
-    NotReady,
-    Recovering,
-    BadArea,
-    Damaged,
-    TooMany,
-    Stale,
-    Worn,
-    LogFull,
-    NoStatus,
-    LongCandidate,
-    LongRecovery,
-    LongSnapshot,
+    Pending = 1,
+    Idle = 2,
+    Capacity = 3,
+    NotReady = 4,
+    Recovering = 5,
+    BadArea = 6,
+    Damaged = 7,
+    TooMany = 9,
+    Stale = 10,
+    Worn = 11,
+    LogFull = 12,
+    NoStatus = 13,
+    LongCandidate = 14,
+    LongRecovery = 15,
+    LongSnapshot = 16,
 }
 
 // Lengths and counts as they were, which a performed call gives back.
-#[derive(Clone, Copy)]
+#[derive(Clone, Copy, PartialEq, Eq)]
 pub enum Was {
     Nothing,
     One(usize),
@@ -34,7 +34,7 @@ pub enum Was {
 }
 
 // `item` of a ticket is the phase, or the action's number.
-#[derive(Clone, Copy)]
+#[derive(Clone, Copy, PartialEq, Eq)]
 pub enum Answer {
     Done(Was),
     Refused(Refusal),
@@ -49,42 +49,26 @@ impl Refusal {
     pub fn number(self) -> u64
         ensures { result ≡ refusal_number self }
     {
-        match self {
-            Refusal::Pending => 1,
-            Refusal::Idle => 2,
-            Refusal::Capacity => 3,
-            Refusal::NotReady => 4,
-            Refusal::Recovering => 5,
-            Refusal::BadArea => 6,
-            Refusal::Damaged => 7,
-            Refusal::TooMany => 9,
-            Refusal::Stale => 10,
-            Refusal::Worn => 11,
-            Refusal::LogFull => 12,
-            Refusal::NoStatus => 13,
-            Refusal::LongCandidate => 14,
-            Refusal::LongRecovery => 15,
-            Refusal::LongSnapshot => 16,
-        }
+        self as u64
     }
 
     // Whether an ask that is refused so is written all the same.
     pub fn is_written(self) -> bool
         ensures { result ≡ refusal_written self }
     {
-        let n = self.number();
-        (n == Refusal::NotReady.number()) | (n == Refusal::Recovering.number())
+        matches!(self, Refusal::NotReady | Refusal::Recovering)
     }
 }
 
 impl Answer {
+    // A match: only an enum whose cases carry nothing takes numbers beside them.
     pub fn number(self) -> u64
         ensures { result ≡ (says self).number }
     {
         match self {
             Answer::Done(_) => 0,
             Answer::Refused(why) => why.number(),
-            Answer::Ticket { number: _, item: _ } => 20,
+            Answer::Ticket { .. } => 20,
             Answer::Waiting => 21,
             Answer::Failed(_) => 22,
             Answer::More => 23,
@@ -96,15 +80,7 @@ impl Answer {
     pub fn is_refused(self) -> bool
         ensures { result ≡ refused (says self).class }
     {
-        match self {
-            Answer::Refused(_) => true,
-            Answer::Done(_) => false,
-            Answer::Ticket { number: _, item: _ } => false,
-            Answer::Waiting => false,
-            Answer::Failed(_) => false,
-            Answer::More => false,
-            Answer::Finished => false,
-        }
+        matches!(self, Answer::Refused(_))
     }
 
     // Whether an ask or a report with this answer is written.

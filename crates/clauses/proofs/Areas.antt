@@ -8,7 +8,8 @@ use Rattle.choice.proofs.Tests.{tests, both, test, never}
 use Rattle.areas.specs.Areas.{sized, copied}
 use Rattle.batch.specs.Batch.{limit, table_sized, paired, stored}
 use Rattle.batch.proofs.Laws.{stored_identities}
-use Rattle.phases.specs.{declared.Next.Next, declared.Next.TheVariants.To, declared.Next.TheVariants.Nowhere}
+use Rattle.std.specs.Prelude.{Option, Some, None}
+use Rattle.phases.specs.{declared.Phase.Phase}
 use Rattle.record.specs.{Answers.Told, Leaves.Leaves, Given.beginning, declared.Record.Record, declared.Outcome.Outcome, Given.standing}
 use Rattle.record.specs.{declared.Beginning.Beginning}
 use Rattle.answers.specs.{Classes.refused, Classes.Class.performed}
@@ -39,10 +40,10 @@ even : (n : ℕ) → eqb (n % 2) 0 ≡ true → n / 2 ≤ limit → n ≤ 2 * li
 even n e h = omega tests
 
 -- going on keeps both lengths
-on_keeps : (next : Next) (q : Record) → ((onward next q).candidate ≡ q.candidate) × ((onward next q).recovery ≡ q.recovery)
+on_keeps : (next : Option Phase) (q : Record) → ((onward next q).candidate ≡ q.candidate) × ((onward next q).recovery ≡ q.recovery)
 unfolding onward
-on_keeps (To next) q = (refl, refl)
-on_keeps Nowhere q = (refl, refl)
+on_keeps (Some next) q = (refl, refl)
+on_keeps None q = (refl, refl)
 
 module _ (r : Record) (m : Typed (standing r)) (w : whole r ≡ true) where
   -- where all sizes are right, what holds of the step holds of what is told

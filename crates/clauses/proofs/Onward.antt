@@ -6,7 +6,8 @@ use lib.Dec.{eqb}
 use borrow.Author.Tests.{eqb-true}
 use Rattle.choice.specs.Pick.{pick, ◌or◌}
 use Rattle.choice.proofs.Tests.{either, neither}
-use Rattle.phases.specs.{Phases.has_successor, Phases.successor, Phases.boundary, declared.Next.TheVariants.To}
+use Rattle.std.specs.Prelude.{Some}
+use Rattle.phases.specs.{Phases.has_successor, Phases.successor, Phases.boundary}
 use Rattle.record.specs.{Fields.spent, Fields.with_place, declared.Record.Record, Given.standing}
 use Rattle.tickets.specs.{Live.is_live, declared.Live.Live}
 use Rattle.tickets.specs.Live as Tickets
@@ -88,7 +89,7 @@ module _ (r : Record) (m : Typed (standing r)) (w : whole r ≡ true) (t : ℕ) 
       let b = calm_staged (whole_facts r m w).calm apart.not0 in
       record {
         c176 = λ n. apart.not0;
-        c177 = λ n. rw succeeds (ap (λ (k : ℕ). To (record { number = k })) (sym x.phase));
+        c177 = λ n. rw succeeds (ap (λ (k : ℕ). Some (record { number = k })) (sym x.phase));
         c178 = λ n. b;
         c179 = λ n. x.staged ∙ b;
         c181 = λ n. apart.not0;

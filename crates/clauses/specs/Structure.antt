@@ -1,8 +1,7 @@
 -- The clauses of `poll_structure` and `structure_result`, of an asking and of a report alike: t is what it tells of the record r.
 -- Assumes nothing.
-use Rattle.std.specs.Prelude.{◌+◌, ◌≤◌, ◌<◌, ◌≡◌, true, false, ◌≢◌}
+use Rattle.std.specs.Prelude.{◌+◌, ◌≤◌, ◌<◌, ◌≡◌, true, false, ◌≢◌, Some}
 use Rattle.phases.specs.Phases.{none, adopt, has_successor, successor, boundary}
-use Rattle.phases.specs.declared.Next.TheVariants.{To}
 use Rattle.answers.specs.Classes.{Class}
 use Rattle.answers.specs.Classes.Class.{refusal}
 use Rattle.answers.specs.Classes.StepAnswer.{finished}
@@ -18,7 +17,7 @@ pub record Stepping (r s : Record) : Type 0 where
   -- a changed phase implies that there was one
   pub c176 : s.phase.number ≢ r.phase.number → r.phase.number ≢ none
   -- and that the new one is the successor of the old
-  pub c177 : s.phase.number ≢ r.phase.number → successor r.phase.number ≡ To s.phase
+  pub c177 : s.phase.number ≢ r.phase.number → successor r.phase.number ≡ Some s.phase
   -- and that the old and the new are staged
   pub c178 : s.phase.number ≢ r.phase.number → r.staged ≡ true
   pub c179 : s.phase.number ≢ r.phase.number → s.staged ≡ true

@@ -1,12 +1,11 @@
 -- The upstream types and specs that are tables here: the phases' successors and boundaries, and what `protocol` and `wf` say of a
 -- record. Assumes nothing.
-use Rattle.std.specs.Prelude.{ℕ, ◌≤◌, ◌<◌, ◌≡◌, Bool, true, false, List, [], ◌∷◌}
+use Rattle.std.specs.Prelude.{ℕ, ◌≤◌, ◌<◌, ◌≡◌, Bool, true, false, List, [], ◌∷◌, Option, Some, None}
 use Rattle.phases.specs.Phases.{none, remove, settle_removed, mount, settle_mounted, updates, adopt, ready, undo, recover_remove, recover_settle_removed, recover_mount, recover_settle_mounted, recovered}
-use Rattle.phases.specs.declared.Next.{Next}
-use Rattle.phases.specs.declared.Next.TheVariants.{To, Nowhere}
+use Rattle.phases.specs.declared.Phase.{Phase}
 use Rattle.record.specs.Fields.{top}
 use Rattle.record.specs.declared.Record.{Record}
-use Rattle.tickets.specs.declared.Live.TheVariants.{None}
+use Rattle.tickets.specs.declared.Live.TheVariants as Ticket
 use Rattle.wholeness.specs.Whole.{counts_fit, restoring_fits}
 
 -- none, and the thirteen phases in upstream's order
@@ -14,9 +13,9 @@ abbrev pub phases : List ℕ
 phases = 0 ∷ 1 ∷ 2 ∷ 3 ∷ 4 ∷ 5 ∷ 6 ∷ 7 ∷ 8 ∷ 9 ∷ 10 ∷ 11 ∷ 12 ∷ 13 ∷ []
 
 -- a successor's number, 0 for none
-abbrev pub phase_number : Next → ℕ
-phase_number (To next) = next.number
-phase_number Nowhere = 0
+abbrev pub phase_number : Option Phase → ℕ
+phase_number (Some next) = next.number
+phase_number None = 0
 
 -- C9 to C18: the successor of each
 abbrev pub successors : List ℕ
@@ -68,4 +67,4 @@ pub record WellFormed (r : Record) : Type 0 where
   -- not staged: no entries, no structural phase, and no live ticket either
   pub c74 : r.staged ≡ false → r.entries ≡ 0
   pub c75 : r.staged ≡ false → r.phase.number ≡ none
-  pub c75_ticket : r.staged ≡ false → r.live ≡ None
+  pub c75_ticket : r.staged ≡ false → r.live ≡ Ticket.None

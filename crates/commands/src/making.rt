@@ -2,7 +2,6 @@
 use super::{Asking, Bringing, Command, Ending, Marking, Payloads, Planning, Tailing, Working};
 use holdings::Area;
 use record::{Opening, Outcome, Reporting};
-use row_reading::Row;
 use rows::FIELDS;
 use seeds::Seeded;
 use step_stamps::SaveStamp;
@@ -66,8 +65,8 @@ fn preparing(key: u8, n: Numbers) -> Command {
         b'f' => Command::Fill(seeded(n[0], n[1])),
         b't' => Command::Tails(n[0] as usize),
         _ => match row_reading::record_of(n) {
-            Row::Fits(given) => Command::Record(given),
-            Row::Misfit => Command::Bad,
+            Some(given) => Command::Record(given),
+            None => Command::Bad,
         },
     }
 }

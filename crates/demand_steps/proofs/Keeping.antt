@@ -3,8 +3,8 @@ use Prim.Native.Nat.{ℕ}
 use mathlib.Core.Path.{◌≡◌, refl}
 use mathlib.Core.List.{List}
 use Rattle.choice.proofs.Picks.{each}
-use Rattle.phases.specs.declared.Next.{Next}
-use Rattle.phases.specs.declared.Next.TheVariants.{To, Nowhere}
+use Rattle.std.specs.Prelude.{Option, Some, None}
+use Rattle.phases.specs.declared.Phase.{Phase}
 use Rattle.answers.specs.Answers.{Said}
 use Rattle.record.specs.Given.Effect.{works}
 use Rattle.record.specs.Fields.{with_place}
@@ -21,7 +21,7 @@ unfolding hears_report
 report_keeps f same of t a w = let P : Watch → Type 0 = λ y. f y ≡ f w in each P _ (each P _ (same _ _ w) (same _ _ w)) refl
 
 -- of the record, going on changes the place alone
-pub onward_keeps : {A : Type 0} (f : Record → A) → ((p a b : ℕ) (r : Record) → f (with_place p a b r) ≡ f r) → (next : Next) (r : Record) → f (onward next r) ≡ f r
+pub onward_keeps : {A : Type 0} (f : Record → A) → ((p a b : ℕ) (r : Record) → f (with_place p a b r) ≡ f r) → (next : Option Phase) (r : Record) → f (onward next r) ≡ f r
 unfolding onward
-onward_keeps f same (To next) r = same _ _ _ r
-onward_keeps f same Nowhere r = refl
+onward_keeps f same (Some next) r = same _ _ _ r
+onward_keeps f same None r = refl

@@ -14,8 +14,6 @@ pub fn issue(r: Record, live: Live, item: u32) -> Stepped
     ensures { tells result ≡ issued live item r }
 {
     let number = live.number();
-    r.with_ticket(number, live).answering(Answer::Ticket {
-        number: number,
-        item: item,
-    })
+    r.with_ticket(number, live)
+        .answering(Answer::Ticket { number, item })
 }

@@ -1,8 +1,7 @@
 -- Document 01, "Modules", 1: the phases' numbers, successors and boundaries. Assumes nothing.
-use Rattle.std.specs.Prelude.{ℕ, ◌+◌, Bool, leb, eqb}
+use Rattle.std.specs.Prelude.{ℕ, ◌+◌, Bool, leb, eqb, Option, Some, None}
 use Rattle.choice.specs.Pick.{pick, ◌and◌, ◌or◌}
-use Rattle.phases.specs.declared.Next.{Next}
-use Rattle.phases.specs.declared.Next.TheVariants.{To, Nowhere}
+use Rattle.phases.specs.declared.Phase.{Phase}
 
 -- "0 none, 1 Remove, 2 SettleRemoved, 3 Mount, 4 SettleMounted, 5 Updates, 6 Adopt, 7 Ready, 8 Undo, 9 RecoverRemove,
 -- 10 RecoverSettleRemoved, 11 RecoverMount, 12 RecoverSettleMounted, 13 Recovered"
@@ -49,15 +48,15 @@ abbrev pub recovered : ℕ
 recovered = 13
 
 -- the phase of a number
-unfoldable pub from_number : ℕ → Next
-from_number n = pick (leb n recovered) (To (record { number = n })) Nowhere
+unfoldable pub from_number : ℕ → Option Phase
+from_number n = pick (leb n recovered) (Some (record { number = n })) None
 
 -- "The successor of 1 to 4, 6 and 9 to 12 is the next number; the others have none."
 unfoldable pub has_successor : ℕ → Bool
 has_successor n = leb remove n and leb n settle_mounted or eqb n adopt or leb recover_remove n and leb n recover_settle_mounted
 
-unfoldable pub successor : ℕ → Next
-successor n = pick (has_successor n) (To (record { number = n + 1 })) Nowhere
+unfoldable pub successor : ℕ → Option Phase
+successor n = pick (has_successor n) (Some (record { number = n + 1 })) None
 
 -- "Boundaries: 5, 7, 13."
 unfoldable pub boundary : ℕ → Bool

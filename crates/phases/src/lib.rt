@@ -4,17 +4,11 @@
 ghost use Rattle.std.specs.Prelude.{◌≡◌};
 ghost use Rattle.phases.specs.Phases.{from_number, has_successor, successor, boundary};
 
-// A phase by its number. A record that comes from outside may hold any number; `from_number` tells the phases.
-#[derive(Clone, Copy)]
+// A phase by its number: a struct, not an enum, since a record that comes from outside may hold any number (it is whole only with that
+// of a phase), and document 01's list of forms wants the numbers as constants of the type. `from_number` tells the phases.
+#[derive(Clone, Copy, PartialEq, Eq)]
 pub struct Phase {
     pub number: u8,
-}
-
-// A phase, or that there is none.
-#[derive(Clone, Copy)]
-pub enum Next {
-    To(Phase),
-    Nowhere,
 }
 
 impl Phase {
@@ -47,13 +41,13 @@ impl Phase {
     pub const RECOVERED: u8 = 13;
 
     // The phase of a number, if it has one.
-    pub fn from_number(number: u8) -> Next
+    pub fn from_number(number: u8) -> Option<Phase>
         ensures { result ≡ from_number number }
     {
         if number <= Phase::RECOVERED {
-            Next::To(Phase { number: number })
+            Some(Phase { number })
         } else {
-            Next::Nowhere
+            None
         }
     }
 
@@ -61,22 +55,24 @@ impl Phase {
     pub fn has_successor(self) -> bool
         ensures { result ≡ has_successor self.number }
     {
-        ((Phase::REMOVE <= self.number) & (self.number <= Phase::SETTLE_MOUNTED))
-            | (self.number == Phase::ADOPT)
-            | ((Phase::RECOVER_REMOVE <= self.number)
-                & (self.number <= Phase::RECOVER_SETTLE_MOUNTED))
+        matches!(
+            self.number,
+            Phase::REMOVE..=Phase::SETTLE_MOUNTED
+                | Phase::ADOPT
+                | Phase::RECOVER_REMOVE..=Phase::RECOVER_SETTLE_MOUNTED
+        )
     }
 
     // The phase that a Done report leads to.
-    pub fn successor(self) -> Next
+    pub fn successor(self) -> Option<Phase>
         ensures { result ≡ successor self.number }
     {
         if self.has_successor() {
-            Next::To(Phase {
+            Some(Phase {
                 number: self.number + 1,
             })
         } else {
-            Next::Nowhere
+            None
         }
     }
 
@@ -84,8 +80,9 @@ impl Phase {
     pub fn boundary(self) -> bool
         ensures { result ≡ boundary self.number }
     {
-        (self.number == Phase::UPDATES)
-            | (self.number == Phase::READY)
-            | (self.number == Phase::RECOVERED)
+        matches!(
+            self.number,
+            Phase::UPDATES | Phase::READY | Phase::RECOVERED
+        )
     }
 }

@@ -12,9 +12,9 @@ use phases::Phase;
 use tickets::Live;
 
 // The largest u64: no revision is committed over it, no serial is given past it, and no settings are replaced past it.
-pub const MAX: u64 = 18446744073709551615;
+pub const MAX: u64 = u64::MAX;
 
-#[derive(Clone, Copy)]
+#[derive(Clone, Copy, PartialEq, Eq)]
 pub struct Record {
     pub revision: u64,
     pub serial: u64,
@@ -34,14 +34,14 @@ pub struct Record {
 }
 
 // What was found of all that a call is lent together: that every size is right, and that what is read in it is sound.
-#[derive(Clone, Copy)]
+#[derive(Clone, Copy, PartialEq, Eq)]
 pub struct Findings {
     pub sized: bool,
     pub sound: bool,
 }
 
 // What an opening is given besides its payload.
-#[derive(Clone, Copy)]
+#[derive(Clone, Copy, PartialEq, Eq)]
 pub struct Opening {
     pub revision: u64,
     pub serial: u64,
@@ -49,7 +49,7 @@ pub struct Opening {
 }
 
 // What a begin is given besides its flag: the lengths of both payloads, and the number of actions.
-#[derive(Clone, Copy)]
+#[derive(Clone, Copy, PartialEq, Eq)]
 pub struct Beginning {
     pub candidate: usize,
     pub recovery: usize,
@@ -57,7 +57,7 @@ pub struct Beginning {
 }
 
 // What became of the work that a ticket was given for.
-#[derive(Clone, Copy)]
+#[derive(Clone, Copy, PartialEq, Eq)]
 pub enum Outcome {
     Waiting,
     Failed(u64),
@@ -65,14 +65,14 @@ pub enum Outcome {
 }
 
 // What a report is given besides what it stores: its ticket, and what became of the work.
-#[derive(Clone, Copy)]
+#[derive(Clone, Copy, PartialEq, Eq)]
 pub struct Reporting {
     pub ticket: u64,
     pub outcome: Outcome,
 }
 
 // What a call answers, and the record that it leaves.
-#[derive(Clone, Copy)]
+#[derive(Clone, Copy, PartialEq, Eq)]
 pub struct Stepped {
     pub answer: Answer,
     pub state: Record,
@@ -83,15 +83,12 @@ impl Findings {
     pub fn of(sized: bool) -> Findings
         ensures { result ≡ of_sizes sized }
     {
-        Findings {
-            sized: sized,
-            sound: true,
-        }
+        Findings { sized, sound: true }
     }
 }
 
 impl Opening {
-    // An opening at 0.
+    // An opening at 0; its numbers stand here, since a derived Default would leave them to be guessed.
     pub fn start() -> Opening
         ensures { result ≡ start }
     {
@@ -110,7 +107,7 @@ impl Opening {
             revision: self.revision,
             serial: self.serial,
             replacements: self.replacements,
-            accepted: accepted,
+            accepted,
             candidate: 0,
             recovery: 0,
             staged: false,
@@ -133,23 +130,10 @@ impl Record {
     pub fn with_ticket(self, serial: u64, live: Live) -> Record
         ensures { result ≡ with_ticket serial live self }
     {
-        let phase = self.phase;
         Record {
-            revision: self.revision,
-            serial: serial,
-            replacements: self.replacements,
-            accepted: self.accepted,
-            candidate: self.candidate,
-            recovery: self.recovery,
-            staged: self.staged,
-            phase: phase,
-            forward: self.forward,
-            back: self.back,
-            entries: self.entries,
-            applied: self.applied,
-            attempted: self.attempted,
-            restoring: self.restoring,
-            live: live,
+            serial,
+            live,
+            ..self
         }
     }
 
@@ -186,7 +170,6 @@ impl Stepped {
     pub fn is_refused(self) -> bool
         ensures { result ≡ refused (tells self).class }
     {
-        let answer = self.answer;
-        answer.is_refused()
+        self.answer.is_refused()
     }
 }

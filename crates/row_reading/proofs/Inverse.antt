@@ -16,7 +16,8 @@ use Rattle.tickets.specs.declared.Live.{Live}
 use Rattle.tickets.specs.declared.Live.TheVariants.{None, Structure, Update, Rollback}
 use Rattle.rows.specs.Rows.{flag, row_of, fields, top8, top32}
 use Rattle.row_reading.specs.RowReading.{at, in_ranges, live_of, made, record_of}
-use Rattle.row_reading.specs.declared.Row.TheVariants.{Fits, Misfit}
+use Rattle.std.specs.Prelude.{Some}
+use Rattle.std.specs.Prelude as Prelude
 use Rattle.row_reading.proofs.Ranges.{Ranged, ranged}
 
 -- what the types of a record's fields say of its numbers
@@ -70,9 +71,9 @@ unfolding row_of
 made_back r = simp (flag_back, live_back)
 
 -- the numbers of a record give it back
-pub record_back : (r : Record) → Typed r → record_of (row_of r) ≡ Fits r
+pub record_back : (r : Record) → Typed r → record_of (row_of r) ≡ Some r
 unfolding record_of row_of
-record_back r t = sym (yes _ (join refl (in_ranges_lem r t)) (ap Fits (sym (made_back r))))
+record_back r t = sym (yes _ (join refl (in_ranges_lem r t)) (ap Some (sym (made_back r))))
 
 flag_same : (n : ℕ) → n ≤ 1 → flag (eqb n 1) ≡ n
 flag_same zero h = refl
@@ -106,11 +107,11 @@ numbers_made row l t =
     (ap (listed (at row)) (sym l) ∙ all_listed row)
 
 -- a row that gives a record is that record's numbers
-pub numbers_back : (row : List ℕ) (r : Record) → record_of row ≡ Fits r → row_of r ≡ row
+pub numbers_back : (row : List ℕ) (r : Record) → record_of row ≡ Some r → row_of r ≡ row
 unfolding record_of
 numbers_back row r e =
     test (eqb (length row) fields and in_ranges row)
     (λ h. let fits = both h in
-    let same : made row ≡ r = cc (yes {x = Fits (made row)} Misfit h refl) in
+    let same : made row ≡ r = cc (yes {x = Some (made row)} Prelude.None h refl) in
     ap row_of (sym same) ∙ numbers_made row (eqb-true _ _ fits.0) (ranged row fits.1))
-    (λ h. let z : ◌≡◌ {A = ℕ} 0 1 = cc (no {y = Misfit} (Fits (made row)) h refl) in absurd (omega arith))
+    (λ h. let z : ◌≡◌ {A = ℕ} 0 1 = cc (no {y = Prelude.None} (Some (made row)) h refl) in absurd (omega arith))

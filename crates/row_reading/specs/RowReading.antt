@@ -1,14 +1,12 @@
 -- The record whose numbers a row has. The order and the ranges are those of the driver's page, "record R S A C V G P F B N D T E K M",
 -- with request 3's count at its end. Assumes nothing.
-use Rattle.std.specs.Prelude.{ℕ, Bool, not, List, leb, eqb, length, get_or}
+use Rattle.std.specs.Prelude.{ℕ, Bool, not, List, leb, eqb, length, get_or, Option, Some, None}
 use Rattle.choice.specs.Pick.{pick, ◌and◌, ◌or◌}
 use Rattle.tickets.specs.Live.{structure, update, rollback, no_ticket}
 use Rattle.record.specs.declared.Record.{Record}
 use Rattle.tickets.specs.declared.Live.{Live}
-use Rattle.tickets.specs.declared.Live.TheVariants.{None, Structure, Update, Rollback}
+use Rattle.tickets.specs.declared.Live.TheVariants as Ticket
 use Rattle.rows.specs.Rows.{top8, top32, fields}
-use Rattle.row_reading.specs.declared.Row.{Row}
-use Rattle.row_reading.specs.declared.Row.TheVariants.{Fits, Misfit}
 
 abbrev pub at : List ℕ → ℕ → ℕ
 at row i = get_or row i 0
@@ -22,7 +20,7 @@ in_ranges row =
 
 unfoldable pub live_of : ℕ → ℕ → Live
 live_of work n =
-    pick (eqb work structure) (Structure n) (pick (eqb work update) (Update n) (pick (eqb work rollback) (Rollback n) None))
+    pick (eqb work structure) (Ticket.Structure n) (pick (eqb work update) (Ticket.Update n) (pick (eqb work rollback) (Ticket.Rollback n) Ticket.None))
 
 -- the record of a row whose numbers are in their ranges
 abbrev pub made : List ℕ → Record
@@ -45,5 +43,5 @@ made row = record {
 }
 
 -- a row has as many numbers as a record has fields
-unfoldable pub record_of : List ℕ → Row
-record_of row = pick (eqb (length row) fields and in_ranges row) (Fits (made row)) Misfit
+unfoldable pub record_of : List ℕ → Option Record
+record_of row = pick (eqb (length row) fields and in_ranges row) (Some (made row)) None

@@ -15,13 +15,6 @@ const NONE: u64 = Live::NONE as u64;
 
 const ROLLBACK: u64 = Live::ROLLBACK as u64;
 
-// The record that a row is, or that a number of it is past the range of its field.
-#[derive(Clone, Copy)]
-pub enum Row {
-    Fits(Record),
-    Misfit,
-}
-
 // Whether each number is in the range of its field.
 fn in_ranges(row: [u64; FIELDS]) -> bool
     ensures { result ≡ in_ranges row }
@@ -50,31 +43,30 @@ fn live_of(work: u8, number: u64) -> Live
     }
 }
 
-// The record whose numbers these are.
-pub fn record_of(row: [u64; FIELDS]) -> Row
+// The record whose numbers these are; none where a number is past the range of its field.
+pub fn record_of(row: [u64; FIELDS]) -> Option<Record>
     ensures { result ≡ record_of row }
 {
-    if in_ranges(row) {
-        let live = live_of(row[13] as u8, row[14]);
-        return Row::Fits(Record {
-            revision: row[0],
-            serial: row[1],
-            accepted: row[2] as usize,
-            candidate: row[3] as usize,
-            recovery: row[4] as usize,
-            staged: row[5] == 1,
-            phase: Phase {
-                number: row[6] as u8,
-            },
-            forward: row[7] as u8,
-            back: row[8] as u8,
-            entries: row[9] as u32,
-            applied: row[10] as u32,
-            attempted: row[11] as u32,
-            restoring: row[12] == 1,
-            live: live,
-            replacements: row[15],
-        });
+    if !in_ranges(row) {
+        return None;
     }
-    Row::Misfit
+    Some(Record {
+        revision: row[0],
+        serial: row[1],
+        accepted: row[2] as usize,
+        candidate: row[3] as usize,
+        recovery: row[4] as usize,
+        staged: row[5] == 1,
+        phase: Phase {
+            number: row[6] as u8,
+        },
+        forward: row[7] as u8,
+        back: row[8] as u8,
+        entries: row[9] as u32,
+        applied: row[10] as u32,
+        attempted: row[11] as u32,
+        restoring: row[12] == 1,
+        live: live_of(row[13] as u8, row[14]),
+        replacements: row[15],
+    })
 }

@@ -18,7 +18,6 @@ pub const TOP32: u64 = u32::MAX as u64;
 pub fn numbers(r: Record) -> [u64; FIELDS]
     ensures { result ≡ row_of r }
 {
-    let live = r.live;
     [
         r.revision,
         r.serial,
@@ -33,8 +32,8 @@ pub fn numbers(r: Record) -> [u64; FIELDS]
         r.applied as u64,
         r.attempted as u64,
         r.restoring as u64,
-        live.work() as u64,
-        live.number(),
+        r.live.work() as u64,
+        r.live.number(),
         r.replacements,
     ]
 }

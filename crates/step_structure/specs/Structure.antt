@@ -1,10 +1,9 @@
 -- Document 01, "The steps": report structure, with its own refusals in the order given, behind the gate for 6 and 7; before it what a
 -- Done report does to the record, once its ticket is taken. Assumes nothing.
-use Rattle.std.specs.Prelude.{ℕ, ◌+◌, Bool, List, [], leb}
+use Rattle.std.specs.Prelude.{ℕ, ◌+◌, Bool, List, [], leb, Option, Some, None}
 use Rattle.choice.specs.Pick.{pick}
 use Rattle.phases.specs.Phases.{adopt, successor, boundary}
-use Rattle.phases.specs.declared.Next.{Next}
-use Rattle.phases.specs.declared.Next.TheVariants.{To, Nowhere}
+use Rattle.phases.specs.declared.Phase.{Phase}
 use Rattle.tickets.specs.Live.{structure}
 use Rattle.record.specs.Fields.{with_place, with_lengths, spent}
 use Rattle.record.specs.Answers.{Told, answer}
@@ -18,11 +17,11 @@ use Rattle.record.specs.declared.Outcome.{Outcome}
 use Rattle.answers.specs.declared.Answer.TheVariants.{More, Finished}
 
 -- "Done goes to the successor, raises forward (phases 1 to 6) or back (9 to 12)"; a live structure ticket has a phase with one
-unfoldable pub onward : Next → Record → Record
-onward (To next) r =
+unfoldable pub onward : Option Phase → Record → Record
+onward (Some next) r =
     with_place next.number (pick (leb r.phase.number adopt) (r.forward + 1) r.forward)
     (pick (leb r.phase.number adopt) r.back (r.back + 1)) r
-onward Nowhere r = r
+onward None r = r
 
 unfoldable pub advanced : Record → Record
 advanced r = onward (successor r.phase.number) r

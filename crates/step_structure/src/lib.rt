@@ -9,7 +9,7 @@ ghost use Rattle.record.specs.Answers.{tells};
 ghost use Rattle.step_structure.specs.Structure.{advanced, structure_done, report_structure_bars, report_structure_step};
 
 use answers::{Answer, Refusal};
-use phases::{Next, Phase};
+use phases::Phase;
 use record::{Findings, Record, Reporting, Stepped};
 use reporting::{report_gate, reported};
 use tickets::Live;
@@ -20,16 +20,15 @@ fn advanced(mut r: Record) -> Record
     ensures { result ≡ advanced r }
 {
     let p = r.phase.number;
-    let found = r.phase.successor();
-    let Next::To(next) = found else {
+    let Some(next) = r.phase.successor() else {
         return r;
     };
     r.phase = next;
     if p <= Phase::ADOPT {
-        r.forward = r.forward + 1;
+        r.forward += 1;
         return r;
     }
-    r.back = r.back + 1;
+    r.back += 1;
     r
 }
 

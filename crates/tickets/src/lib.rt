@@ -5,7 +5,7 @@ ghost use Rattle.std.specs.Prelude.{◌≡◌};
 ghost use Rattle.tickets.specs.Live.{work_of, number, is_live};
 
 // Which kind of ticket is live, with its number.
-#[derive(Clone, Copy)]
+#[derive(Clone, Copy, PartialEq, Eq)]
 pub enum Live {
     None,
     Structure(u64),
@@ -22,7 +22,7 @@ impl Live {
 
     pub const ROLLBACK: u8 = 3;
 
-    // The work that it is for, as a number, for tests: an enum is compared by a match.
+    // The work that it is for, as a number: a record as a row of numbers has it, and the programs print it.
     pub fn work(self) -> u8
         ensures { result ≡ work_of self }
     {
@@ -40,9 +40,7 @@ impl Live {
     {
         match self {
             Live::None => 0,
-            Live::Structure(n) => n,
-            Live::Update(n) => n,
-            Live::Rollback(n) => n,
+            Live::Structure(n) | Live::Update(n) | Live::Rollback(n) => n,
         }
     }
 

@@ -26,10 +26,11 @@ fn counts_fit(r: Record) -> bool
 fn staged_fits(r: Record) -> bool
     ensures { result ≡ staged_fits r.staged r.revision r.replacements r.phase.number r.entries r.live }
 {
-    let live = r.live;
-    (!r.staged | ((r.revision < MAX) & (r.replacements < MAX)))
-        & (r.staged
-            | ((r.phase.number == Phase::NONE) & (r.entries == 0) & (live.work() == Live::NONE)))
+    if r.staged {
+        (r.revision < MAX) & (r.replacements < MAX)
+    } else {
+        (r.phase.number == Phase::NONE) & (r.entries == 0) & (r.live == Live::None)
+    }
 }
 
 fn forward_fits(r: Record) -> bool
@@ -85,17 +86,18 @@ fn live_fits(r: Record) -> bool
     ensures { result ≡ live_fits r.live r.serial r.restoring r.phase.number r.entries r.applied r.attempted }
 {
     let p = r.phase.number;
-    let live = r.live;
-    let work = live.work();
-    (work == Live::NONE)
-        | ((live.number() == r.serial)
-            & (1 <= r.serial)
-            & (!(work == Live::STRUCTURE) | r.phase.has_successor())
-            & (!(work == Live::UPDATE)
-                | (((p == Phase::NONE) | (p == Phase::UPDATES))
-                    & !r.restoring
-                    & is_next(r.applied, r.attempted)))
-            & (!(work == Live::ROLLBACK) | (r.restoring & (0 < r.entries))))
+    let given = (r.live.number() == r.serial) & (1 <= r.serial);
+    match r.live {
+        Live::None => true,
+        Live::Structure(_) => given & r.phase.has_successor(),
+        Live::Update(_) => {
+            given
+                & ((p == Phase::NONE) | (p == Phase::UPDATES))
+                & !r.restoring
+                & is_next(r.applied, r.attempted)
+        }
+        Live::Rollback(_) => given & r.restoring & (0 < r.entries),
+    }
 }
 
 // Whether the record is whole, as document 01 lists it; any other is Damaged.

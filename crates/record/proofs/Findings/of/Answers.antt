@@ -1,6 +1,0 @@
--- `record::Findings::of` meets its contract: the code is the definition. Assumes nothing.
-use mathlib.Core.Path.{refl}
-use Rattle.record.proofs.Findings.of.Goals as goal
-
-pub returns : goal.returns
-returns c = refl
