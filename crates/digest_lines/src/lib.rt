@@ -28,7 +28,11 @@ pub struct Digests {
 pub fn put_digests(page: &mut Page, d: Digests)
     ensures { page.new ≡ put_all page.old (digests_text d) }
 {
-    put_line(page, b"bytes", &[d.accepted, d.candidate, d.recovery, d.exchange]);
+    put_line(
+        page,
+        b"bytes",
+        &[d.accepted, d.candidate, d.recovery, d.exchange],
+    );
     put_line(page, b"table", &[d.table]);
     put_line(page, b"log", &[d.log]);
     put_line(page, b"status", &[d.groups, d.status]);
