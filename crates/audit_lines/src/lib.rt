@@ -1,18 +1,18 @@
 // What an audit writes: the plain engine's five answers after the first events of an input log, as a line. Nothing here reads or writes a
-// file: a line is put into a buffer of which the first `written` bytes are in use, and the function that puts one answers how many are in
-// use then. No function asks anything of its caller: what has no room is left out.
+// file: a line is put on a page. No function asks anything of its caller: what has no room is left out.
 #![tactic(auto)]
 
 ghost use Rattle.std.specs.Prelude.{◌≡◌};
 ghost use Rattle.log_layout.specs.Log.{count};
 ghost use Rattle.plain.specs.Looking.{asked};
-ghost use Rattle.text.specs.Writing.{page, put_all};
+ghost use Rattle.text.specs.Writing.{put_all};
 ghost use Rattle.audit_lines.specs.Audits.{number_of, audited, answers_text};
 
 use lines::put_line;
 use plain::{Finding, Question};
 use record::Opening;
 use replays::Ending;
+use text::Page;
 
 // The answers to the five questions, in their order.
 #[derive(Clone, Copy)]
@@ -72,8 +72,8 @@ pub fn audit(given: Opening, words: &[u64], events: usize) -> Audited
 }
 
 // How many events, and the answers after them.
-pub fn put_answers(buffer: &mut [u8], written: usize, events: u64, answers: Answers) -> usize
-    ensures { page buffer.new result ≡ put_all (page buffer.old written) (answers_text events answers) }
+pub fn put_answers(page: &mut Page, events: u64, answers: Answers)
+    ensures { page.new ≡ put_all page.old (answers_text events answers) }
 {
     let numbers = [
         events,
@@ -83,5 +83,5 @@ pub fn put_answers(buffer: &mut [u8], written: usize, events: u64, answers: Answ
         answers.due,
         answers.revision,
     ];
-    put_line(buffer, written, b"", &numbers)
+    put_line(page, b"", &numbers);
 }

@@ -1,26 +1,18 @@
-// Writing by way of a buffer, of which the first `written` bytes wait.
+// Writing by way of a page, on which what is put waits.
 use std::io;
 use std::io::Write;
-use text::front;
+use text::Page;
 
-fn lacks_room(size: usize, written: usize, room: usize) -> bool {
-    if size < room {
-        return true;
-    }
-    size - room < written
-}
-
-// Writes out what waits where this is due, or where there is less room left than is asked for, and answers how many bytes wait now.
+// Writes out what waits where this is due, or where there is less room left than is asked for.
 pub fn flush_before(
     output: &mut impl Write,
     due: bool,
-    buffer: &[u8],
-    written: usize,
+    page: &mut Page,
     room: usize,
-) -> io::Result<usize> {
-    if !(due | lacks_room(buffer.len(), written, room)) {
-        return Ok(written);
+) -> io::Result<()> {
+    if due || page.room() < room {
+        output.write_all(page.filled())?;
+        page.clear();
     }
-    output.write_all(front(buffer, written))?;
-    Ok(0)
+    Ok(())
 }

@@ -4,7 +4,7 @@ use super::{Place, flush_before, holds_line, next_line, start};
 use std::io;
 use std::io::{ErrorKind, Read, Write};
 use std::test::Fail;
-use text::front;
+use text::Page;
 
 const NO_LINE: &str = "no line";
 
@@ -32,11 +32,12 @@ impl Write for Broken {
 fn lines_cross_chunks_and_are_cut(rt: HostRuntime) -> Result<(), Fail> {
     let mut input = b"ab\n\nabcdef\nc".as_slice();
     let mut chunk = [0u8; 4];
-    let mut line = [0u8; 5];
+    let mut room = [0u8; 5];
+    let mut line = Page::new(&mut room);
     let mut place = start();
     for want in ["ab", "", "abcde", "c", ""] {
         place = next_line(&mut input, &mut chunk, &mut line, place)?;
-        let got = str::from_utf8(front(&line, place.length)).unwrap_or(NO_LINE);
+        let got = str::from_utf8(line.filled()).unwrap_or(NO_LINE);
         assert_eq!(rt; got, want);
     }
     assert!(rt; place.ended);
@@ -48,7 +49,6 @@ fn a_line_is_held_up_to_its_newline(rt: HostRuntime) {
     let place = Place {
         at: 2,
         filled: 4,
-        length: 0,
         ended: false,
     };
     for (chunk, want) in [(b"a\nb\nc", true), (b"a\nbc\n", false)] {
@@ -59,7 +59,8 @@ fn a_line_is_held_up_to_its_newline(rt: HostRuntime) {
 #[test]
 fn a_read_that_fails_is_no_end(rt: HostRuntime) {
     let mut chunk = [0u8; 4];
-    let mut line = [0u8; 4];
+    let mut room = [0u8; 4];
+    let mut line = Page::new(&mut room);
     let read = next_line(&mut Broken, &mut chunk, &mut line, start());
     assert!(rt; read.is_err());
 }
@@ -67,10 +68,16 @@ fn a_read_that_fails_is_no_end(rt: HostRuntime) {
 #[test]
 fn what_waits_is_written_where_it_is_due_or_room_is_short(rt: HostRuntime) -> Result<(), Fail> {
     let mut output = Vec::new(rt.alloc());
+    let mut bytes = [0u8; 5];
     for (due, room, want) in [(false, 2, 3), (false, 3, 0), (true, 0, 0)] {
-        assert_eq!(rt; flush_before(&mut output, due, b"abc--", 3, room)?, want);
+        let mut page = Page::new(&mut bytes);
+        page.put_text(b"abc");
+        flush_before(&mut output, due, &mut page, room)?;
+        assert_eq!(rt; page.filled().len(), want);
     }
     assert_eq!(rt; output.as_slice(), b"abcabc".as_slice());
-    assert!(rt; flush_before(&mut Broken, true, b"abc--", 3, 0).is_err());
+    let mut page = Page::new(&mut bytes);
+    page.put_text(b"abc");
+    assert!(rt; flush_before(&mut Broken, true, &mut page, 0).is_err());
     Ok(())
 }

@@ -1,13 +1,13 @@
-// The lines that tell of all that is held by its digests. Nothing here reads or writes a file: the lines are put into a buffer of which
-// the first `written` bytes are in use, and the function that puts them answers how many are in use then. It asks nothing of its caller:
-// what has no room is left out.
+// The lines that tell of all that is held by its digests. Nothing here reads or writes a file: the lines are put on a page. It asks
+// nothing of its caller: what has no room is left out.
 #![tactic(auto)]
 
 ghost use Rattle.std.specs.Prelude.{◌≡◌};
-ghost use Rattle.text.specs.Writing.{page, put_all};
+ghost use Rattle.text.specs.Writing.{put_all};
 ghost use Rattle.digest_lines.specs.DigestTexts.{digests_text};
 
 use lines::put_line;
+use text::Page;
 
 // The digests of all that is held, and the count of used tail records.
 #[derive(Clone, Copy)]
@@ -25,13 +25,16 @@ pub struct Digests {
 }
 
 // Five lines: the areas, the table, the log, the status part's bytes, and the tail table.
-pub fn put_digests(buffer: &mut [u8], written: usize, d: Digests) -> usize
-    ensures { page buffer.new result ≡ put_all (page buffer.old written) (digests_text d) }
+pub fn put_digests(page: &mut Page, d: Digests)
+    ensures { page.new ≡ put_all page.old (digests_text d) }
 {
-    let bytes = [d.accepted, d.candidate, d.recovery, d.exchange];
-    let at = put_line(buffer, written, b"bytes", &bytes);
-    let at = put_line(buffer, at, b"table", &[d.table]);
-    let at = put_line(buffer, at, b"log", &[d.log]);
-    let at = put_line(buffer, at, b"status", &[d.groups, d.status]);
-    put_line(buffer, at, b"tails", &[d.used, d.tails])
+    put_line(
+        page,
+        b"bytes",
+        &[d.accepted, d.candidate, d.recovery, d.exchange],
+    );
+    put_line(page, b"table", &[d.table]);
+    put_line(page, b"log", &[d.log]);
+    put_line(page, b"status", &[d.groups, d.status]);
+    put_line(page, b"tails", &[d.used, d.tails]);
 }

@@ -8,7 +8,8 @@ use lib.Dec.{eqb}
 use lib.ListN.{length, drop, get_or}
 use lib.Seq.{drop-cons}
 use Rattle.numbers.proofs.Lists.{drop_past}
-use Rattle.text.specs.Writing.{newline_byte, Page, put_byte, put_all, decimal_of}
+use Rattle.text.specs.declared.Page.{Page}
+use Rattle.text.specs.Writing.{newline_byte, put_byte, put_all, decimal_of}
 use Rattle.text.proofs.Putting.{put_both}
 use Rattle.lines.specs.Lines.{space_if, numbers_text, line_text}
 

@@ -1,43 +1,39 @@
-// A line: a word and numbers in a row, put into a buffer of which the first `written` bytes are in use. Every function answers how many
-// are in use then; what has no room is left out. Nothing here writes a file, and no function asks anything of its caller.
+// A line: a word and numbers in a row, put on a page. What has no room is left out. Nothing here writes a file, and no function asks
+// anything of its caller.
 #![tactic(auto)]
 
 ghost use Rattle.std.specs.Prelude.{◌≡◌};
-ghost use Rattle.text.specs.Writing.{page, put_all};
+ghost use Rattle.text.specs.Writing.{put_all};
 ghost use Rattle.lines.specs.Lines.{space_if, numbers_text, line_text};
 
-use text::{put_byte, put_decimal, put_text};
+use text::Page;
 
-fn put_space(buffer: &mut [u8], written: usize, due: bool) -> usize
-    ensures { page buffer.new result ≡ put_all (page buffer.old written) (space_if due) }
+// A flag, not a row without its first: all that a turn has to know of those before it is whether a space is due.
+fn put_space(page: &mut Page, due: bool)
+    ensures { page.new ≡ put_all page.old (space_if due) }
 {
     if due {
-        return put_byte(buffer, written, b' ');
+        page.put_byte(b' ');
     }
-    written
 }
 
 // Numbers with a space between any two of them, and before the first where one is due.
-fn put_numbers(buffer: &mut [u8], written: usize, first: bool, numbers: &[u64]) -> usize
-    ensures { page buffer.new result ≡ put_all (page buffer.old written) (numbers_text first numbers.now) }
+fn put_numbers(page: &mut Page, first: bool, numbers: &[u64])
+    ensures { page.new ≡ put_all page.old (numbers_text first numbers.now) }
 {
-    let mut at = written;
     let mut due = first;
-    let mut i = 0;
-    while i < numbers.len() {
-        at = put_space(buffer, at, due);
-        at = put_decimal(buffer, at, numbers[i]);
+    for number in numbers {
+        put_space(page, due);
+        page.put_decimal(*number);
         due = true;
-        i += 1;
     }
-    at
 }
 
 // A word, which may be empty, then numbers, with a space between any two of them, and a newline.
-pub fn put_line(buffer: &mut [u8], written: usize, word: &[u8], numbers: &[u64]) -> usize
-    ensures { page buffer.new result ≡ put_all (page buffer.old written) (line_text word.now numbers.now) }
+pub fn put_line(page: &mut Page, word: &[u8], numbers: &[u64])
+    ensures { page.new ≡ put_all page.old (line_text word.now numbers.now) }
 {
-    let named = put_text(buffer, written, word);
-    let counted = put_numbers(buffer, named, word.len() != 0, numbers);
-    put_byte(buffer, counted, b'\n')
+    page.put_text(word);
+    put_numbers(page, !word.is_empty(), numbers);
+    page.put_byte(b'\n');
 }

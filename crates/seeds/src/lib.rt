@@ -5,6 +5,8 @@
 ghost use Rattle.std.specs.Prelude.{◌≡◌, ◌+◌, ◌%◌, ◌<◌, take};
 ghost use Rattle.seeds.specs.Seeds.{payload_over, words_over};
 
+use text::front;
+
 #[derive(Clone, Copy)]
 pub struct Seeded {
     pub count: usize,
@@ -48,22 +50,12 @@ fn fill_words(words: &mut [u64], named: Seeded)
     }
 }
 
-// The first n words, or all where there are fewer.
-fn front(words: &[u64], n: usize) -> &[u64]
-    ensures { result.now ≡ take n words.now }
-{
-    if n < words.len() {
-        return &words[..n];
-    }
-    words
-}
-
 // The payload that is named, made at the start of `bytes`.
 pub fn payload(bytes: &mut [u8], named: Seeded) -> &[u8]
     ensures { result.now ≡ take named.count (payload_over named.count named.seed bytes.old) }
 {
     fill(bytes, named);
-    text::front(bytes, named.count)
+    front(bytes, named.count)
 }
 
 // The words that are named, made at the start of `words`.

@@ -2,20 +2,23 @@
 use Rattle.std.specs.Prelude.{ℕ, zero, suc, ◌+◌, ◌/◌, ◌%◌, List, [], ◌∷◌, ◌++◌, ltb, length, set}
 use Prim.Native.Char.{code}
 use Prim.Native.String.{String, [] as endOfText, ◌∷◌ as ◌⁏◌}
+use Rattle.std.specs.Borrow.{MutBor}
 use Rattle.choice.specs.Pick.{pick}
 use Rattle.numbers.specs.Reading.{zero_byte}
+use Rattle.text.specs.declared.Page.{Page}
 
--- a buffer's bytes, and how many of them are in use
-pub record Page : Type 0 where
-  pub bytes : List ℕ
-  pub written : ℕ
+-- lent bytes of which the first n are in use
+abbrev pub page : MutBor (List ℕ) → ℕ → Page
+page bytes n = record { bytes = bytes; written = n }
 
-abbrev pub page : List ℕ → ℕ → Page
-page l n = record { bytes = l; written = n }
+-- the same lent bytes with others in them
+abbrev pub holding : MutBor (List ℕ) → List ℕ → MutBor (List ℕ)
+holding bytes l = record bytes { now = l }
 
 -- a byte is put after those in use, which are one more then; without room all stays as it is
 unfoldable pub put_byte : Page → ℕ → Page
-put_byte p byte = pick (ltb p.written (length p.bytes)) (page (set p.bytes p.written byte) (p.written + 1)) p
+put_byte p byte =
+    pick (ltb p.written (length p.bytes.now)) (page (holding p.bytes (set p.bytes.now p.written byte)) (p.written + 1)) p
 
 -- the bytes of a text are put, one after the other
 unfoldable pub put_all : Page → List ℕ → Page

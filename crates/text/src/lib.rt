@@ -1,47 +1,79 @@
-// Text that is written, in lent bytes: a buffer of which the first `written` bytes are in use. Every function that puts something answers
-// how many are in use then; what has no room is left out. Nothing here writes a file, and no function asks anything of its caller.
+// Text that is written, in lent bytes: a page, of whose bytes the first are in use. What has no room is left out. Nothing here writes a
+// file, and no function asks anything of its caller.
 #![tactic(auto)]
 
-ghost use Rattle.std.specs.Prelude.{◌≡◌, take};
+ghost use Rattle.std.specs.Prelude.{◌≡◌, ◌-◌, take, length};
 ghost use Rattle.text.specs.Writing.{page, put_byte, put_all, decimal_of};
 
-// The first n bytes, or all where there are fewer.
-pub fn front(bytes: &[u8], n: usize) -> &[u8]
-    ensures { result.now ≡ take n bytes.now }
+// The first n of these, or all where there are fewer.
+pub fn front<T>(items: &[T], n: usize) -> &[T]
+    ensures { result.now ≡ take n items.now }
 {
-    if n < bytes.len() {
-        return &bytes[..n];
+    if n < items.len() {
+        return &items[..n];
     }
-    bytes
+    items
 }
 
-pub fn put_byte(buffer: &mut [u8], written: usize, byte: u8) -> usize
-    ensures { page buffer.new result ≡ put_byte (page buffer.old written) byte }
-{
-    if written < buffer.len() {
-        buffer[written] = byte;
-        return written + 1;
-    }
-    written
+// Lent bytes, and how many of them are in use.
+#[derive(Drop)]
+pub struct Page<'a> {
+    bytes: &'a mut [u8],
+    written: usize,
 }
 
-pub fn put_text(buffer: &mut [u8], written: usize, text: &[u8]) -> usize
-    ensures { page buffer.new result ≡ put_all (page buffer.old written) text.now }
-{
-    let mut at = written;
-    let mut i = 0;
-    while i < text.len() {
-        at = put_byte(buffer, at, text[i]);
-        i += 1;
+impl<'a> Page<'a> {
+    // Nothing is in use at first.
+    pub fn new(bytes: &'a mut [u8]) -> Page<'a>
+        ensures { result ≡ page bytes.entry 0 }
+    {
+        Page { bytes, written: 0 }
     }
-    at
-}
 
-// The number in decimal, with no zero in front.
-pub fn put_decimal(buffer: &mut [u8], written: usize, number: u64) -> usize
-    ensures { page buffer.new result ≡ put_all (page buffer.old written) (decimal_of number) }
-{
-    let mut digits = [0u8; 20];
-    let count = io::decimal(number, &mut digits);
-    put_text(buffer, written, &digits[..count])
+    pub fn put_byte(&mut self, byte: u8)
+        ensures { self.new ≡ put_byte self.old byte }
+    {
+        if self.written < self.bytes.len() {
+            self.bytes[self.written] = byte;
+            self.written += 1;
+        }
+    }
+
+    pub fn put_text(&mut self, text: &[u8])
+        ensures { self.new ≡ put_all self.old text.now }
+    {
+        for byte in text {
+            self.put_byte(*byte);
+        }
+    }
+
+    // The number in decimal, with no zero in front.
+    pub fn put_decimal(&mut self, number: u64)
+        ensures { self.new ≡ put_all self.old (decimal_of number) }
+    {
+        let mut digits = [0u8; 20];
+        let count = io::decimal(number, &mut digits);
+        self.put_text(&digits[..count]);
+    }
+
+    // How many bytes more there is room for.
+    pub fn room(&self) -> usize
+        ensures { result ≡ length self.now.bytes.now - self.now.written }
+    {
+        self.bytes.len().saturating_sub(self.written)
+    }
+
+    // What is in use.
+    pub fn filled(&self) -> &[u8]
+        ensures { result.now ≡ take self.now.written self.now.bytes.now }
+    {
+        front(self.bytes, self.written)
+    }
+
+    // Nothing is in use any more.
+    pub fn clear(&mut self)
+        ensures { self.new ≡ page self.old.bytes 0 }
+    {
+        self.written = 0;
+    }
 }

@@ -6,10 +6,4 @@ use Rattle.digest_lines.proofs.put_digests.Goals as goal
 pub returns : goal.returns
 unfolding digests_text
 returns c =
-    let tails = c in
-    let status = tails in
-    let log = status in
-    let table = log in
-    let bytes = table in
-    put_five _ _ _ _ _ _ bytes.put_line-at.ensures table.put_line-at-2.ensures log.put_line-at-3.ensures status.put_line-at-4.ensures
-    tails.put_line.ensures
+    put_five _ _ _ _ _ _ c.put_line.ensures c.put_line-2.ensures c.put_line-3.ensures c.put_line-4.ensures c.put_line-5.ensures

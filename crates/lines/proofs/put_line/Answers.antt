@@ -3,8 +3,4 @@ use Rattle.lines.proofs.Turns.{line}
 use Rattle.lines.proofs.put_line.Goals as goal
 
 pub returns : goal.returns
-returns c =
-    let b = c in
-    let n = b in
-    let w = n in
-    line _ _ _ w.put_text-named.ensures n.put_numbers-counted.ensures b.put_byte.ensures
+returns c = line _ _ _ c.put_text.ensures (rw c.is_empty.ensures at c.put_numbers.ensures) c.put_byte.ensures

@@ -8,6 +8,6 @@ pub returns-then-due : goal.returns-then-due
 unfolding put_all space_if pick
 returns-then-due c = rw c.if-due.true c.put_byte.ensures
 
-pub returns : goal.returns
+pub returns-else-due : goal.returns-else-due
 unfolding put_all space_if pick
-returns c = rw c.if-due.false
+returns-else-due c = rw c.if-due.false

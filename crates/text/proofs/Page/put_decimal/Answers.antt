@@ -1,9 +1,9 @@
--- `text::put_decimal` meets its contract: what `io::decimal` puts is the decimal text. Assumes nothing.
+-- `text::Page::put_decimal` meets its contract: what `io::decimal` puts is the decimal text. Assumes nothing.
 use mathlib.Core.Path.{ap, ◌∙◌}
 use native.Mathlib.Omega.{arith}
 use Rattle.text.specs.Writing.{put_all}
 use Rattle.text.proofs.Decimal.{few, decimal_text}
-use Rattle.text.proofs.put_decimal.Goals as goal
+use Rattle.text.proofs.Page.put_decimal.Goals as goal
 
 pub returns : goal.returns
 returns c =
