@@ -14,14 +14,14 @@ module _ {E : Type 0} where
   in_turn (Ok u) next = next
   in_turn (Err why) next = Err why
 
-  behind : (test : Bool) (why : E) {v w : Result (Unit {0}) E} (next : Result (Unit {0}) E) → w ≡ in_turn v next → pick test (Err why) w ≡ in_turn (pick test (Err why) v) next
+  behind : (test : Bool) (why : E) (v next : Result (Unit {0}) E) {w : Result (Unit {0}) E} → w ≡ in_turn v next → pick test (Err why) w ≡ in_turn (pick test (Err why) v) next
   unfolding pick
-  behind true why next e = refl
-  behind false why next e = e
+  behind true why v next e = refl
+  behind false why v next e = e
 
   pub row_more : (bs cs : List (Bar E)) → verdict (bs ++ cs) ≡ in_turn (verdict bs) (verdict cs)
   row_more [] cs = refl
-  row_more (b ∷ bs) cs = behind b.test b.why (verdict cs) (row_more bs cs)
+  row_more (b ∷ bs) cs = behind b.test b.why (verdict bs) (verdict cs) (row_more bs cs)
 
   -- the code's word r of the bars bs: a refusal, which is the longer row's, or none, and then the rest of the row says the same as it
   pub refused_in : {r : Result (Unit {0}) E} {why : E} (bs cs : List (Bar E)) → r ≡ verdict bs → r ≡ Err why → Err why ≡ verdict (bs ++ cs)

@@ -40,7 +40,7 @@ unfolding pick verdict_at
 verdict_back (Ok u) = refl
 verdict_back (Err w) = not_done w (Err (refusal_at (tail_number w))) ∙ ap Err (refusal_back w)
   where
-    not_done : (w : TailRefusal) (v : Verdict) → pick (eqb (tail_number w) 0) Done v ≡ v
+    not_done : (w : TailRefusal) (v : Verdict) → pick (eqb (tail_number w) 0) (Ok tt) v ≡ v
     not_done BadArea v = refl
     not_done Damaged v = refl
     not_done Full v = refl

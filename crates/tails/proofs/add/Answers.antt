@@ -2,7 +2,7 @@
 use mathlib.Core.Path.{sym, ◌∙◌}
 use native.Mathlib.Omega.{arith}
 use Prim.Native.Nat.{◌+◌}
-use Rattle.tail_answers.specs.TailAnswers.{verdict}
+use Rattle.bars.specs.Bars.{verdict}
 use Rattle.tail_table.specs.Table.{used_of, entered, over_first}
 use Rattle.tail_table.specs.TailCalls.{add_row}
 use Rattle.tail_sweeps.proofs.Words.{records}

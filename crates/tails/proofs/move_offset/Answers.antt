@@ -1,6 +1,6 @@
 -- `tails::move_offset` meets its contract. Assumes nothing.
 use mathlib.Core.Path.{sym, ◌∙◌}
-use Rattle.tail_answers.specs.TailAnswers.{verdict}
+use Rattle.bars.specs.Bars.{verdict}
 use Rattle.tail_table.specs.Table.{file_of, used_of, moved_to, over_first}
 use Rattle.tail_table.specs.TailCalls.{move_row}
 use Rattle.tail_sweeps.proofs.Moving.{movable}

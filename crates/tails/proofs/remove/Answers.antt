@@ -3,7 +3,7 @@ use mathlib.Core.Path.{refl, sym, ◌∙◌}
 use mathlib.Core.List.{[], ◌∷◌, ◌++◌}
 use native.Mathlib.Omega.{arith}
 use Prim.Native.Nat.{◌-◌}
-use Rattle.tail_answers.specs.TailAnswers.{verdict}
+use Rattle.bars.specs.Bars.{verdict}
 use Rattle.tail_table.specs.Table.{used_of, without, over_first, zeroes}
 use Rattle.tail_table.specs.TailCalls.{remove_row}
 use Rattle.tail_sweeps.proofs.Deciding.{place_so}
