@@ -79,8 +79,9 @@ fn put_in(words: &mut [u64], used: usize, t: Tail)
     requires { (length words.old % 3 ≡ 0) × (used < length (tails_of words.old)) }
     ensures { words.new ≡ over_first (entered t (used_of words.old used)) words.old }
 {
+    let place = place_of(words, used, t.file());
     let mut carried = t;
-    for i in place_of(words, used, t.file())..used {
+    for i in place..used {
         let next = tail_at(words, i);
         put_tail(words, i, carried);
         carried = next;
