@@ -7,18 +7,19 @@ ghost use Rattle.step_stamps.specs.Stamping.{says_stamping, says_checked};
 ghost use Rattle.calls.specs.Lending.{leaves_of};
 ghost use Rattle.calls.specs.Lending.Lending.{stamp, check};
 
+use answers::Refusal;
 use record::Record;
-use step_stamps::{Checked, SaveStamp, Stamping};
+use step_stamps::SaveStamp;
 
 // A stamp of the accepted settings, for a domain.
-pub fn stamp(r: Record, domain: u64) -> Stamping
+pub fn stamp(r: Record, domain: u64) -> Result<SaveStamp, Refusal>
     ensures { told (says_stamping result) r ≡ (leaves_of r (stamp domain)).told }
 {
     step_stamps::stamp(r, domain)
 }
 
 // Whether a stamp still passes.
-pub fn check(r: Record, domain: u64, given: SaveStamp) -> Checked
+pub fn check(r: Record, domain: u64, given: SaveStamp) -> Result<bool, Refusal>
     ensures { told (says_checked result) r ≡ (leaves_of r (check domain given)).told }
 {
     step_stamps::check(r, domain, given)

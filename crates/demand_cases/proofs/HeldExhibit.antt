@@ -7,6 +7,7 @@ use mathlib.Core.Bool.{true, false}
 use mathlib.Core.List.{List, [], ◌∷◌, ◌++◌, map}
 use lib.ListN.{get_or, replicate}
 use native.Mathlib.Omega.{arith}
+use Rattle.std.specs.Prelude.{Ok}
 use Rattle.areas.specs.Areas.{area_size}
 use Rattle.batch.specs.Batch.{table_words}
 use Rattle.record.specs.Answers.{said_of}
@@ -14,7 +15,6 @@ use Rattle.record.specs.Leaves.{Leaves}
 use Rattle.record.specs.Given.{at}
 use Rattle.record.specs.declared.Outcome.TheVariants.{Failed, Done}
 use Rattle.step_stamps.specs.Stamping.{says_checked}
-use Rattle.step_stamps.specs.declared.Checked.TheVariants.{Fails}
 use Rattle.log_layout.specs.Log.{blank}
 use Rattle.calls.specs.Calls.{Call}
 use Rattle.calls.specs.Calls.Work.{update}
@@ -72,7 +72,7 @@ held_met =
     (f.order, f.exact, (held-demands held ended (at 7 0 2) area payload (omega arith) refl refl).revision_law)
 
 -- so that a stamp that was taken at the opening fails
-pub held_stamp_met : said_of (called (held_after held ended).state (Call.check 3 taken)) ≡ says_checked Fails
+pub held_stamp_met : said_of (called (held_after held ended).state (Call.check 3 taken)) ≡ says_checked (Ok false)
 unfolding held_after held_seen stamp_passes
 held_stamp_met = held_stamps held ended 3 taken 3 (omega arith) refl
 

@@ -6,6 +6,7 @@ use mathlib.Core.Path.{◌≡◌, refl}
 use mathlib.Core.Bool.{true, false}
 use mathlib.Core.List.{List, [], ◌∷◌, ◌++◌}
 use native.Mathlib.Omega.{arith}
+use Rattle.std.specs.Prelude.{Ok}
 use Rattle.choice.specs.Pick.{pick}
 use Rattle.phases.specs.Phases.{none}
 use Rattle.answers.specs.Classes.Class.{performed}
@@ -19,7 +20,6 @@ use Rattle.step_opens.specs.Opening.{opening}
 use Rattle.step_begins.specs.Beginning.{begun}
 use Rattle.step_stamps.specs.Stamping.{says_checked}
 use Rattle.step_stamps.specs.declared.SaveStamp.{SaveStamp}
-use Rattle.step_stamps.specs.declared.Checked.TheVariants.{Passes, Fails}
 use Rattle.calls.specs.Calls.{Call}
 use Rattle.calls.specs.Calls.Call.{begin, commit, recover, recover_retained, refresh, stamp, check}
 use Rattle.demand_steps.specs.Knowing.{unwatched}
@@ -66,6 +66,6 @@ law : (us : List Sent) → let w = known unwatched (now (ahead ++ plainly commit
 unfolding now known
 law us = stamps_anywhere true (at 7 0 2) 3 (omega arith) opens (ahead ++ plainly commit ∷ []) 3 later us 3 refl
 
-pub anywhere_met : (since [] ≡ says_checked Passes) × (since (plainly (refresh 4) ∷ []) ≡ says_checked Fails)
+pub anywhere_met : (since [] ≡ says_checked (Ok true)) × (since (plainly (refresh 4) ∷ []) ≡ says_checked (Ok false))
 unfolding now known unwatched stamp_passes
 anywhere_met = (law [], law (plainly (refresh 4) ∷ []))

@@ -6,6 +6,7 @@ use mathlib.Core.Path.{◌≡◌, refl}
 use mathlib.Core.Bool.{true, false}
 use mathlib.Core.List.{List, [], ◌∷◌, ◌++◌, map}
 use native.Mathlib.Omega.{arith}
+use Rattle.std.specs.Prelude.{Ok}
 use Rattle.choice.specs.Pick.{pick}
 use Rattle.areas.specs.Areas.{area_size}
 use Rattle.answers.specs.Classes.Class.{performed}
@@ -16,8 +17,6 @@ use Rattle.record.specs.declared.Outcome.TheVariants.{Waiting, Done}
 use Rattle.step_opens.specs.Opening.{opening}
 use Rattle.step_ends.specs.Ending.{after_commit}
 use Rattle.step_stamps.specs.Stamping.{says_stamping, says_checked}
-use Rattle.step_stamps.specs.declared.Stamping.TheVariants.{Taken}
-use Rattle.step_stamps.specs.declared.Checked.TheVariants.{Passes, Fails}
 use Rattle.calls.specs.Calls.Work.{structure, update, rollback}
 use Rattle.calls.specs.Calls.Report.{structured, rolledBack}
 use Rattle.calls.specs.Calls.Call.{begin, ask, report, commit, recover, recover_retained, refresh, stamp, check}
@@ -75,7 +74,7 @@ unfolding now
 opens_met = commit_opens (now bare) refl
 
 -- a stamp of domain 3 at revision 7 and 2 replacements
-pub stamp_met : said_of (called start (stamp 3)) ≡ says_stamping (Taken taken)
+pub stamp_met : said_of (called start (stamp 3)) ≡ says_stamping (Ok taken)
 unfolding called
 stamp_met = refl
 
@@ -92,19 +91,19 @@ abbrev refusals : List Sent
 refusals = map plainly (commit ∷ recover 4 ∷ recover_retained ∷ refresh (area_size + 1) ∷ [])
 
 -- yes: with nothing since, and after calls that were refused
-pub passes_met : (checked [] 3 ≡ says_checked Passes) × (checked refusals 3 ≡ says_checked Passes)
+pub passes_met : (checked [] 3 ≡ says_checked (Ok true)) × (checked refusals 3 ≡ says_checked (Ok true))
 unfolding now seen stamp_passes
 passes_met = (law [] 3, law refusals 3)
 
 -- no: while one is staged, after its commit, after a commit with another staged, and for another domain
-pub fails_met : (checked ahead 3 ≡ says_checked Fails) × (checked (ahead ++ plainly commit ∷ []) 3 ≡ says_checked Fails)
-    × (checked again 3 ≡ says_checked Fails) × (checked [] 4 ≡ says_checked Fails)
+pub fails_met : (checked ahead 3 ≡ says_checked (Ok false)) × (checked (ahead ++ plainly commit ∷ []) 3 ≡ says_checked (Ok false))
+    × (checked again 3 ≡ says_checked (Ok false)) × (checked [] 4 ≡ says_checked (Ok false))
 unfolding now seen stamp_passes
 fails_met = (law ahead 3, law (ahead ++ plainly commit ∷ []) 3, law again 3, law [] 4)
 
 -- nor, at the same revision, after either recovery and after a refresh; the count is one more after each
-pub replaced_met : (checked (undone ++ plainly recover_retained ∷ []) 3 ≡ says_checked Fails) × (checked (bare ++ plainly (recover 4) ∷ []) 3 ≡ says_checked Fails)
-    × (checked (plainly (refresh 4) ∷ []) 3 ≡ says_checked Fails) × ((now (plainly (refresh 4) ∷ [])).replacements ≡ 3)
+pub replaced_met : (checked (undone ++ plainly recover_retained ∷ []) 3 ≡ says_checked (Ok false)) × (checked (bare ++ plainly (recover 4) ∷ []) 3 ≡ says_checked (Ok false))
+    × (checked (plainly (refresh 4) ∷ []) 3 ≡ says_checked (Ok false)) × ((now (plainly (refresh 4) ∷ [])).replacements ≡ 3)
 unfolding now seen stamp_passes
 replaced_met = (
   law (undone ++ plainly recover_retained ∷ []) 3,

@@ -1,6 +1,6 @@
 -- Document 01, "Cases on each side", with P1 and P12 as request 3 has them: P1 to P12, each a record to start from and what the calls
 -- on it answer. Assumes nothing.
-use Rattle.std.specs.Prelude.{ℕ, Bool, true, false, ◌&&◌, List, [], ◌∷◌, ◌++◌, eqb}
+use Rattle.std.specs.Prelude.{ℕ, Bool, true, false, ◌&&◌, List, [], ◌∷◌, ◌++◌, eqb, Ok}
 use Rattle.phases.specs.Phases.{none, recover_remove}
 use Rattle.record.specs.Fields.{top}
 use Rattle.answers.specs.Answers.{Said, says}
@@ -15,8 +15,6 @@ use Rattle.step_opens.specs.Opening.{opening, open_step}
 use Rattle.step_begins.specs.Beginning.{begun}
 use Rattle.step_stamps.specs.Stamping.{says_stamping, says_checked}
 use Rattle.step_stamps.specs.declared.SaveStamp.{SaveStamp}
-use Rattle.step_stamps.specs.declared.Stamping.TheVariants.{Taken}
-use Rattle.step_stamps.specs.declared.Checked.TheVariants.{Fails}
 use Rattle.calls.specs.Calls.{Call, step}
 use Rattle.calls.specs.Calls.Work.{structure, update, rollback}
 use Rattle.calls.specs.Calls.Report.{structured, updated, rolledBack}
@@ -68,7 +66,7 @@ case r ls = record { start = r; lines = ls }
 unfoldable pub cases : List Case
 cases =
     -- P1 opened at 7 with 2 replacements, domain 3: stamp (3, 7, 2)
-    case (open_step true (at 7 0 2) 0).state ((stamp 3 ⇒ says_stamping (Taken taken)) ∷ [])
+    case (open_step true (at 7 0 2) 0).state ((stamp 3 ⇒ says_stamping (Ok taken)) ∷ [])
     -- P2 idle at the u64 maximum: begin 3
     ∷ case (opening (at top 0 0) 0) ((begin false (beginning 0 0 0) ⇒ says (Refused Capacity)) ∷ [])
     -- P3 staged at that revision: 7
@@ -102,7 +100,7 @@ cases =
     ∷ case (opening (at 0 0 0) 0) ((ask rollback ⇒ says Finished) ∷ (ask update ⇒ says (Refused Recovering)) ∷ [])
     -- P12 stamp, update-only begin without actions, recover: "turned round", the stamp fails
     ∷ case (opening (at 7 0 2) 3)
-    ((stamp 3 ⇒ says_stamping (Taken taken)) ∷ (begin false (beginning 2 2 0) ⇒ done) ∷ (recover 4 ⇒ says (Done (Three 3 2 2))) ∷ (check 3 taken ⇒ says_checked Fails) ∷ [])
+    ((stamp 3 ⇒ says_stamping (Ok taken)) ∷ (begin false (beginning 2 2 0) ⇒ done) ∷ (recover 4 ⇒ says (Done (Three 3 2 2))) ∷ (check 3 taken ⇒ says_checked (Ok false)) ∷ [])
     ∷ []
 
 abbrev pub hold_all : List Case → Bool

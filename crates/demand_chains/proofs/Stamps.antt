@@ -8,6 +8,7 @@ use native.Mathlib.Omega.{arith}
 use lib.Dec.{eqb}
 use lib.ListN.{get_or}
 use borrow.Author.Tests.{eq-eqb, ne_eqb}
+use Rattle.std.specs.Prelude.{Ok}
 use Rattle.choice.specs.Pick.{pick, ◌and◌}
 use Rattle.choice.proofs.Picks.{picked}
 use Rattle.choice.proofs.Tests.{never, test, eqb_ne, tests, no_right, and_true}
@@ -21,8 +22,6 @@ use Rattle.answers.specs.declared.Refusal.{Refusal}
 use Rattle.wholeness.specs.Whole.{whole}
 use Rattle.step_stamps.specs.Stamping.{says_stamping, says_checked, stamp_of, passes}
 use Rattle.step_stamps.specs.declared.SaveStamp.{SaveStamp}
-use Rattle.step_stamps.specs.declared.Stamping.TheVariants.{Taken}
-use Rattle.step_stamps.specs.declared.Checked.TheVariants.{Passes, Fails}
 use Rattle.calls.specs.Calls.{step}
 use Rattle.calls.specs.Calls.Call.{stamp, check}
 use Rattle.demand_chains.specs.Sending.{Sent, after_sent, heard_sent}
@@ -45,7 +44,7 @@ heard_stamp : Said → SaveStamp
 heard_stamp a = record { domain = get_or a.values 0 0; revision = get_or a.values 1 0; replacements = get_or a.values 2 0 }
 
 abbrev Stamping : Record → ℕ → SaveStamp → Told → Type 0
-Stamping r d s x = said_of x ≡ says_stamping (Taken s) → Stamped r d s
+Stamping r d s x = said_of x ≡ says_stamping (Ok s) → Stamped r d s
 
 stamped : (r : Record) (d : ℕ) (s : SaveStamp) → Stamping r d s (step r (stamp d))
 unfolding own heard_stamp
@@ -56,7 +55,7 @@ stamped r d s = answers (Stamping r d s) r refuses true true (stamp d) (λ w. pi
     refuses why h = never (ap (λ (a : Said). refused a.class) h)
 
 -- what a check answers on a whole record
-inside : (b : Bool) (r : Record) → said_of (pick b (told (says_checked Passes) r) (told (says_checked Fails) r)) ≡ said performed (pick b 1 0 ∷ [])
+inside : (b : Bool) (r : Record) → said_of (pick b (told (says_checked (Ok true)) r) (told (says_checked (Ok false)) r)) ≡ said performed (pick b 1 0 ∷ [])
 unfolding pick
 inside true r = refl
 inside false r = refl
@@ -71,7 +70,7 @@ same_by b x y u v c n h k m = test (eqb n 0)
     (λ (e : eqb n 0 ≡ true). rw (eq-eqb x y (omega tests), eq-eqb u v (omega tests), e) (sym (and_true (b and true))))
     (λ (e : eqb n 0 ≡ false). no_right (b and eqb x y) (ne_eqb u v (λ (i : u ≡ v). eqb_ne n 0 e (omega tests))) ∙ sym (no_right b e))
 
-module _ (r : Record) (d : ℕ) (s : SaveStamp) (ss : List Sent) (e : ℕ) (m : Typed (standing r)) (h : said_of (step r (stamp d)) ≡ says_stamping (Taken s)) where
+module _ (r : Record) (d : ℕ) (s : SaveStamp) (ss : List Sent) (e : ℕ) (m : Typed (standing r)) (h : said_of (step r (stamp d)) ≡ says_stamping (Ok s)) where
   -- what the watcher knows who hears the calls since
   abbrev w : Watch
   w = watch unwatched (heard_sent r ss)

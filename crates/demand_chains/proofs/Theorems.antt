@@ -6,6 +6,7 @@ use mathlib.Core.List.{List, [], ◌∷◌}
 use mathlib.Core.Logic.{◌≢◌}
 use native.Mathlib.Omega.{arith}
 use lib.ListN.{length}
+use Rattle.std.specs.Prelude.{Ok}
 use Rattle.choice.specs.Pick.{pick}
 use Rattle.choice.proofs.Tests.{never}
 use Rattle.areas.specs.Areas.{area_size}
@@ -23,7 +24,6 @@ use Rattle.wholeness.specs.Whole.{whole}
 use Rattle.step_opens.specs.Opening.{unopened, open_bars, opening, open_step}
 use Rattle.step_stamps.specs.Stamping.{says_stamping}
 use Rattle.step_stamps.specs.declared.SaveStamp.{SaveStamp}
-use Rattle.step_stamps.specs.declared.Stamping.TheVariants.{Taken}
 use Rattle.calls.specs.Calls.{Call, step}
 use Rattle.calls.specs.Calls.Call.{stamp, check}
 use Rattle.demand_chains.specs.Sending.{Sent, after_sent, heard_sent}
@@ -91,7 +91,7 @@ module _ (sized : Bool) (given : Opening) (l : ℕ) (m : Typed given) (o : succe
   replacements_law = demands.replacements_law
 
   -- demand 2, by request 3: of a stamp taken anywhere in the chain
-  pub stamps_anywhere : (d : ℕ) (s : SaveStamp) (us : List Sent) (e : ℕ) → said_of (step now (stamp d)) ≡ says_stamping (Taken s) →
+  pub stamps_anywhere : (d : ℕ) (s : SaveStamp) (us : List Sent) (e : ℕ) → said_of (step now (stamp d)) ≡ says_stamping (Ok s) →
       let since = watch unwatched (heard_sent now us) in
       said_of (step (after_sent now us) (check e s)) ≡ said performed (pick (stamp_passes since.running e d since.replacements) 1 0 ∷ [])
   stamps_anywhere d s us e h = stamp_law now d s us e (range good.is_whole.calm) h

@@ -5,6 +5,7 @@ use mathlib.Core.Path.{◌≡◌, refl, sym, ◌∙◌, ap}
 use mathlib.Core.Bool.{Bool, true}
 use mathlib.Core.List.{List, [], ◌∷◌, ◌++◌}
 use native.Mathlib.Omega.{arith}
+use Rattle.std.specs.Prelude.{Ok}
 use Rattle.choice.specs.Pick.{pick}
 use Rattle.answers.specs.Classes.{successful}
 use Rattle.answers.specs.Classes.Class.{performed}
@@ -16,7 +17,6 @@ use Rattle.record.specs.Given.{standing}
 use Rattle.step_opens.specs.Opening.{open_step}
 use Rattle.step_stamps.specs.Stamping.{says_stamping}
 use Rattle.step_stamps.specs.declared.SaveStamp.{SaveStamp}
-use Rattle.step_stamps.specs.declared.Stamping.TheVariants.{Taken}
 use Rattle.calls.specs.Calls.{Call, AnyCall, step}
 use Rattle.calls.specs.Calls.Call.{stamp, check}
 use Rattle.calls.specs.Calls.AnyCall.{opens, calls}
@@ -78,7 +78,7 @@ module _ (h : Held) (ds : List Doing) where
 
   -- "a stamp taken in it passes exactly if nothing is staged, the domain is equal and", by request 3, "no commit, recovery or refresh has
   -- succeeded since"
-  pub held_stamps : (d : ℕ) (s : SaveStamp) (e : ℕ) → Typed (standing h.state) → said_of (step h.state (stamp d)) ≡ says_stamping (Taken s) →
+  pub held_stamps : (d : ℕ) (s : SaveStamp) (e : ℕ) → Typed (standing h.state) → said_of (step h.state (stamp d)) ≡ says_stamping (Ok s) →
       said_of (step now (check e s)) ≡ said performed (pick (stamp_passes seen.running e d seen.replacements) 1 0 ∷ [])
   held_stamps d s e m t = rw (held_after_lem h ds, held_heard h ds) (stamp_law h.state d s (sent_held h ds) e m t)
 

@@ -2,15 +2,16 @@
 use Prim.Native.Nat.{ℕ}
 use mathlib.Core.Path.{◌≡◌, sym, ◌∙◌, ap}
 use mathlib.Core.List.{List, ◌∷◌}
+use Rattle.std.specs.Prelude.{Bool, Result}
 use Rattle.answers.specs.Answers.{Said}
 use Rattle.record.specs.Answers.{Told, told, said_of, tells}
 use Rattle.record.specs.Leaves.{Leaves, leaves}
 use Rattle.record.specs.declared.Record.{Record}
 use Rattle.record.specs.declared.Stepped.{Stepped}
 use Rattle.record.proofs.Telling.{tells_one}
+use Rattle.answers.specs.declared.Refusal.{Refusal}
 use Rattle.step_stamps.specs.Stamping.{says_stamping, says_checked}
-use Rattle.step_stamps.specs.declared.Stamping.{Stamping}
-use Rattle.step_stamps.specs.declared.Checked.{Checked}
+use Rattle.step_stamps.specs.declared.SaveStamp.{SaveStamp}
 use Rattle.step_stamps.proofs.Saying.{stamping_one, checked_one}
 use Rattle.status.specs.Status.{Marks, leaves_marks, says_marked}
 use Rattle.status.specs.declared.Marked.{Marked}
@@ -35,17 +36,17 @@ pub one_row : {a b : List ℕ} {l m : List (List ℕ)} → a ∷ l ≡ b ∷ m �
 one_row e = (cc, cc)
 
 -- of the forms saysStamping a ≡ d and saysChecked a ≡ d
-pub one_stamping : (d : Said) (a b : Stamping) → says_stamping a ≡ d → says_stamping b ≡ d → a ≡ b
+pub one_stamping : (d : Said) (a b : Result SaveStamp Refusal) → says_stamping a ≡ d → says_stamping b ≡ d → a ≡ b
 one_stamping d a b p q = stamping_one a b (one p q)
 
-pub one_checked : (d : Said) (a b : Checked) → says_checked a ≡ d → says_checked b ≡ d → a ≡ b
+pub one_checked : (d : Said) (a b : Result Bool Refusal) → says_checked a ≡ d → says_checked b ≡ d → a ≡ b
 one_checked d a b p q = checked_one a b (one p q)
 
 -- of the forms told (saysStamping a) r ≡ d and told (saysChecked a) r ≡ d
-pub one_stamped : (r : Record) (d : Told) (a b : Stamping) → told (says_stamping a) r ≡ d → told (says_stamping b) r ≡ d → a ≡ b
+pub one_stamped : (r : Record) (d : Told) (a b : Result SaveStamp Refusal) → told (says_stamping a) r ≡ d → told (says_stamping b) r ≡ d → a ≡ b
 one_stamped r d a b p q = stamping_one a b (ap said_of (one p q))
 
-pub one_checking : (r : Record) (d : Told) (a b : Checked) → told (says_checked a) r ≡ d → told (says_checked b) r ≡ d → a ≡ b
+pub one_checking : (r : Record) (d : Told) (a b : Result Bool Refusal) → told (says_checked a) r ≡ d → told (says_checked b) r ≡ d → a ≡ b
 one_checking r d a b p q = checked_one a b (ap said_of (one p q))
 
 -- of the form leavesMarks (saysMarked m) bytes ≡ d: the status calls

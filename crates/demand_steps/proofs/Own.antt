@@ -3,6 +3,7 @@
 use mathlib.Core.Path.{◌≡◌, refl, sym, ◌∙◌, subst}
 use mathlib.Core.Bool.{Bool, true, false, not}
 use mathlib.Core.List.{List, [], ◌∷◌}
+use Rattle.std.specs.Prelude.{Ok}
 use Rattle.choice.specs.Pick.{pick, ◌and◌}
 use Rattle.choice.proofs.Picks.{picked}
 use Rattle.answers.specs.Answers.{Said, says}
@@ -27,8 +28,6 @@ use Rattle.step_undos.specs.Undos.{report_rollback_own}
 use Rattle.step_ends.specs.Ending.{commit_own, refresh_own}
 use Rattle.step_recoveries.specs.Recovering.{recover_own, recover_retained_own}
 use Rattle.step_stamps.specs.Stamping.{says_stamping, says_checked, stamp_of, stamp_step, passes, check_step}
-use Rattle.step_stamps.specs.declared.Stamping.TheVariants as S
-use Rattle.step_stamps.specs.declared.Checked.TheVariants as C
 use Rattle.calls.specs.Calls.{Call, step_with, step}
 use Rattle.calls.specs.Calls.Work.{structure, update, rollback}
 use Rattle.calls.specs.Calls.Report.{structured, updated, rolledBack}
@@ -48,8 +47,8 @@ own r commit = commit_own r
 own r (recover n) = recover_own r n
 own r recover_retained = recover_retained_own r
 own r (refresh n) = refresh_own r n
-own r (stamp domain) = pick r.staged (refuse Pending r) (told (says_stamping (S.Taken (stamp_of domain r))) r)
-own r (check domain s) = pick (passes r domain s) (told (says_checked C.Passes) r) (told (says_checked C.Fails) r)
+own r (stamp domain) = pick r.staged (refuse Pending r) (told (says_stamping (Ok (stamp_of domain r))) r)
+own r (check domain s) = pick (passes r domain s) (told (says_checked (Ok true)) r) (told (says_checked (Ok false)) r)
 
 -- the gate is that of what the call is lent, and of stamps and checks, which are lent nothing, the gate for 7 alone
 pub data Behind (sized sound : Bool) (r : Record) (c : Call) : Type 0 where

@@ -5,27 +5,24 @@ use super::telling::Told;
 use commands::Tailing;
 use record::Record;
 use step_stamps::SaveStamp;
-use tail_answers::{Finding, Verdict};
+use tail_answers::{Finding, TailRefusal};
 use tail_replies::{of_finding, of_verdict};
 use tail_table::{Claim, File, Tail};
-use tails::Counted;
 
-// The answer of a call after which there are so many used records.
-fn counted(used: &mut usize, done: Counted) -> Told {
-    *used = done.used;
-    let answer = done.answer;
-    Told::Reply(of_verdict(answer))
+// A call that answers how many records are in use after it; a refused one leaves them.
+fn counted(used: &mut usize, done: Result<usize, TailRefusal>) -> Told {
+    Told::Reply(of_verdict(done.map(|count| *used = count)))
 }
 
 fn claim(record: Record, domain: u64, stamp: SaveStamp) -> Claim {
     Claim {
-        record: record,
-        domain: domain,
-        stamp: stamp,
+        record,
+        domain,
+        stamp,
     }
 }
 
-fn find(structs: bool, f: &[u64], used: usize, file: File, size: u64, by: Claim) -> Finding {
+fn find(structs: bool, f: &[u64], used: usize, file: File, size: u64, by: Claim) -> Result<Finding, TailRefusal> {
     if structs {
         tail_rows::find(f, used, file, size, by)
     } else {
@@ -33,7 +30,7 @@ fn find(structs: bool, f: &[u64], used: usize, file: File, size: u64, by: Claim)
     }
 }
 
-fn move_offset(structs: bool, f: &mut [u64], used: usize, tail: Tail, by: Claim) -> Verdict {
+fn move_offset(structs: bool, f: &mut [u64], used: usize, tail: Tail, by: Claim) -> Result<(), TailRefusal> {
     if structs {
         tail_rows::move_offset(f, used, tail, by)
     } else {

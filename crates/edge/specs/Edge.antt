@@ -1,7 +1,8 @@
 -- What callers in C or Rust give a tail call and a replay as numbers, and how they are told what is found, and what ran. Assumes nothing.
-use Rattle.std.specs.Prelude.{ℕ, List, ◌∷◌}
+use Rattle.std.specs.Prelude.{ℕ, List, ◌∷◌, Result, Ok, Err}
 use Rattle.record.specs.Given.{at, opening}
 use Rattle.replays.specs.Replaying.{replayed}
+use Rattle.tail_answers.specs.declared.TailRefusal.{TailRefusal}
 use Rattle.tail_answers.specs.declared.Finding.{Finding}
 use Rattle.tail_answers.specs.declared.Finding.TheVariants as F
 use Rattle.tail_table.specs.declared.File.{File}
@@ -19,11 +20,11 @@ claim_at revision replacements stamped counted = record {
 }
 
 -- the offset to read on from, or the largest u64 where there is none
-abbrev pub offset_or : Finding → ℕ
-offset_or (F.Same offset) = offset
-offset_or F.Shrunk = 18446744073709551615
-offset_or F.Unknown = 18446744073709551615
-offset_or (F.Refused why) = 18446744073709551615
+abbrev pub offset_or : Result Finding TailRefusal → ℕ
+offset_or (Ok (F.Same offset)) = offset
+offset_or (Ok F.Shrunk) = 18446744073709551615
+offset_or (Ok F.Unknown) = 18446744073709551615
+offset_or (Err why) = 18446744073709551615
 
 -- of a replay from the record of an opening: how many events ran, and the answers as they are left
 abbrev pub replayed_at : List ℕ → ℕ → ℕ → ℕ → ℕ → List ℕ → ℕ → List ℕ

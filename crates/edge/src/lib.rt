@@ -13,7 +13,7 @@ ghost use Rattle.edge.specs.Edge.{file_at, claim_at, offset_or, replayed_at};
 
 use record::Opening;
 use step_stamps::SaveStamp;
-use tail_answers::{Finding, Verdict};
+use tail_answers::Finding;
 use tail_table::{Claim, File, Tail};
 
 // All bytes of src over the first of dst, where they fit.
@@ -67,16 +67,13 @@ pub extern "C" fn edge_find_tail(
 ) -> u64
     ensures { result ≡ offset_or (find_of words.now used (file_at device inode) size (claim_at revision replacements stamped counted)) }
 {
-    let file = File {
-        device: device,
-        inode: inode,
-    };
+    let file = File { device, inode };
     let by = claim(revision, replacements, stamped, counted);
     match tails::find(words, used, file, size, by) {
-        Finding::Same(offset) => offset,
-        Finding::Shrunk => u64::MAX,
-        Finding::Unknown => u64::MAX,
-        Finding::Refused(_) => u64::MAX,
+        Ok(Finding::Same(offset)) => offset,
+        Ok(Finding::Shrunk) => u64::MAX,
+        Ok(Finding::Unknown) => u64::MAX,
+        Err(_) => u64::MAX,
     }
 }
 
@@ -96,14 +93,14 @@ pub extern "C" fn edge_move_tail(
     ensures { result ∷ words.new ≡ (says_verdict (move_of words.old used (tail_of device inode offset) (claim_at revision replacements stamped counted)).answer).number ∷ (move_of words.old used (tail_of device inode offset) (claim_at revision replacements stamped counted)).words }
 {
     let tail = Tail {
-        device: device,
-        inode: inode,
-        offset: offset,
+        device,
+        inode,
+        offset,
     };
     let by = claim(revision, replacements, stamped, counted);
     match tails::move_offset(words, used, tail, by) {
-        Verdict::Done => 0,
-        Verdict::Refused(why) => why.number(),
+        Ok(()) => 0,
+        Err(why) => why.number(),
     }
 }
 

@@ -5,16 +5,16 @@ ghost use Rattle.std.specs.Prelude.{◌≡◌};
 ghost use Rattle.step_stamps.specs.Stamping.{says_stamping, says_checked};
 ghost use Rattle.replies.specs.Replies.{reply_of};
 
-use answers::{Answer, Was};
+use answers::{Answer, Refusal, Was};
 use replies::{Reply, of_answer};
-use step_stamps::{Checked, Stamping};
+use step_stamps::SaveStamp;
 
 // A stamp that was asked for.
-pub fn of_stamp(stamping: Stamping) -> Reply
+pub fn of_stamp(stamping: Result<SaveStamp, Refusal>) -> Reply
     ensures { result ≡ reply_of (says_stamping stamping) }
 {
     match stamping {
-        Stamping::Taken(stamp) => {
+        Ok(stamp) => {
             let number = Answer::Done(Was::Nothing).number();
             Reply {
                 number: number,
@@ -24,17 +24,17 @@ pub fn of_stamp(stamping: Stamping) -> Reply
                 third: stamp.replacements,
             }
         }
-        Stamping::Refused(why) => of_answer(Answer::Refused(why)),
+        Err(why) => of_answer(Answer::Refused(why)),
     }
 }
 
 // A check of a stamp: 1 where it passes, else 0.
-pub fn of_check(checked: Checked) -> Reply
+pub fn of_check(checked: Result<bool, Refusal>) -> Reply
     ensures { result ≡ reply_of (says_checked checked) }
 {
     match checked {
-        Checked::Passes => of_answer(Answer::Done(Was::One(1))),
-        Checked::Fails => of_answer(Answer::Done(Was::One(0))),
-        Checked::Refused(why) => of_answer(Answer::Refused(why)),
+        Ok(true) => of_answer(Answer::Done(Was::One(1))),
+        Ok(false) => of_answer(Answer::Done(Was::One(0))),
+        Err(why) => of_answer(Answer::Refused(why)),
     }
 }

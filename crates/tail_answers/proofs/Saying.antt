@@ -7,12 +7,11 @@ use mathlib.Core.Logic.{◌≢◌}
 use native.Mathlib.Omega.{arith}
 use lib.Dec.{eqb}
 use lib.ListN.{get_or}
+use Rattle.std.specs.Prelude.{Result, Ok, Err}
 use Rattle.choice.specs.Pick.{pick}
-use Rattle.tail_answers.specs.TailAnswers.{TailSaid, tail_number, says_verdict, says_finding}
+use Rattle.tail_answers.specs.TailAnswers.{Verdict, TailSaid, tail_number, says_verdict, says_finding}
 use Rattle.tail_answers.specs.declared.TailRefusal.{TailRefusal}
 use Rattle.tail_answers.specs.declared.TailRefusal.TheVariants.{BadArea, Damaged, Full, Present, Backward, Absent, Unstamped}
-use Rattle.tail_answers.specs.declared.Verdict.{Verdict}
-use Rattle.tail_answers.specs.declared.Verdict.TheVariants.{Done, Refused}
 use Rattle.tail_answers.specs.declared.Finding.{Finding}
 use Rattle.tail_answers.specs.declared.Finding.TheVariants as F
 
@@ -34,14 +33,14 @@ refusal_back Unstamped = refl
 
 -- and so a verdict, and a finding
 verdict_at : TailSaid → Verdict
-verdict_at s = pick (eqb s.number 0) Done (Refused (refusal_at s.number))
+verdict_at s = pick (eqb s.number 0) (Ok tt) (Err (refusal_at s.number))
 
 verdict_back : (v : Verdict) → verdict_at (says_verdict v) ≡ v
 unfolding pick verdict_at
-verdict_back Done = refl
-verdict_back (Refused w) = not_done w (Refused (refusal_at (tail_number w))) ∙ ap Refused (refusal_back w)
+verdict_back (Ok u) = refl
+verdict_back (Err w) = not_done w (Err (refusal_at (tail_number w))) ∙ ap Err (refusal_back w)
   where
-    not_done : (w : TailRefusal) (v : Verdict) → pick (eqb (tail_number w) 0) Done v ≡ v
+    not_done : (w : TailRefusal) (v : Verdict) → pick (eqb (tail_number w) 0) (Ok tt) v ≡ v
     not_done BadArea v = refl
     not_done Damaged v = refl
     not_done Full v = refl
@@ -53,18 +52,18 @@ verdict_back (Refused w) = not_done w (Refused (refusal_at (tail_number w))) ∙
 pub verdict_one : (v w : Verdict) → says_verdict v ≡ says_verdict w → v ≡ w
 verdict_one v w e = sym (verdict_back v) ∙ ap verdict_at e ∙ verdict_back w
 
-found : ℕ → List ℕ → Finding
-found n [] = F.Refused (refusal_at n)
-found n (k ∷ vs) = pick (eqb k 0) (F.Same (get_or vs 0 0)) (pick (eqb k 1) F.Shrunk F.Unknown)
+found : ℕ → List ℕ → Result Finding TailRefusal
+found n [] = Err (refusal_at n)
+found n (k ∷ vs) = Ok (pick (eqb k 0) (F.Same (get_or vs 0 0)) (pick (eqb k 1) F.Shrunk F.Unknown))
 
-finding_back : (x : Finding) → found (says_finding x).number (says_finding x).values ≡ x
+finding_back : (x : Result Finding TailRefusal) → found (says_finding x).number (says_finding x).values ≡ x
 unfolding pick found
-finding_back (F.Same offset) = refl
-finding_back F.Shrunk = refl
-finding_back F.Unknown = refl
-finding_back (F.Refused w) = ap F.Refused (refusal_back w)
+finding_back (Ok (F.Same offset)) = refl
+finding_back (Ok F.Shrunk) = refl
+finding_back (Ok F.Unknown) = refl
+finding_back (Err w) = ap Err (refusal_back w)
 
-pub finding_one : (x y : Finding) → says_finding x ≡ says_finding y → x ≡ y
+pub finding_one : (x y : Result Finding TailRefusal) → says_finding x ≡ says_finding y → x ≡ y
 finding_one x y e = sym (finding_back x) ∙ ap (λ (s : TailSaid). found s.number s.values) e ∙ finding_back y
 
 -- "Number 8 is retired and never given"

@@ -1,13 +1,9 @@
--- Document 02, request 2: what the calls of the tail table answer, each answer's number and values, and refusals in their order. Assumes
--- nothing.
-use Rattle.std.specs.Prelude.{ℕ, Bool, List, [], ◌∷◌}
-use Rattle.choice.specs.Pick.{pick}
+-- Document 02, request 2: what the calls of the tail table answer, and each answer's number and values. Assumes nothing.
+use Rattle.std.specs.Prelude.{ℕ, List, [], ◌∷◌, Result, Ok, Err}
 use Rattle.answers.specs.Classes.{refusal_number}
 use Rattle.answers.specs.declared.Refusal.TheVariants as why
 use Rattle.tail_answers.specs.declared.TailRefusal.{TailRefusal}
 use Rattle.tail_answers.specs.declared.TailRefusal.TheVariants.{BadArea, Damaged, Full, Present, Backward, Absent, Unstamped}
-use Rattle.tail_answers.specs.declared.Verdict.{Verdict}
-use Rattle.tail_answers.specs.declared.Verdict.TheVariants.{Done, Refused}
 use Rattle.tail_answers.specs.declared.Finding.{Finding}
 use Rattle.tail_answers.specs.declared.Finding.TheVariants as F
 
@@ -22,6 +18,10 @@ tail_number Backward = 33
 tail_number Absent = 34
 tail_number Unstamped = 35
 
+-- what adding, removing and moving answer: they are done, or why not
+abbrev pub Verdict : Type 0
+Verdict = Result (Unit {0}) TailRefusal
+
 -- an answer's number and values: what is done or found is 0, and finding tells "Same with the saved offset, Shrunk .., or Unknown" by
 -- 0 with the offset, 1 and 2
 pub record TailSaid : Type 0 where
@@ -32,30 +32,11 @@ abbrev pub tail_said : ℕ → List ℕ → TailSaid
 tail_said n vs = record { number = n; values = vs }
 
 abbrev pub says_verdict : Verdict → TailSaid
-says_verdict Done = tail_said 0 []
-says_verdict (Refused w) = tail_said (tail_number w) []
+says_verdict (Ok u) = tail_said 0 []
+says_verdict (Err w) = tail_said (tail_number w) []
 
-abbrev pub says_finding : Finding → TailSaid
-says_finding (F.Same offset) = tail_said 0 (0 ∷ offset ∷ [])
-says_finding F.Shrunk = tail_said 0 (1 ∷ [])
-says_finding F.Unknown = tail_said 0 (2 ∷ [])
-says_finding (F.Refused w) = tail_said (tail_number w) []
-
--- a refusal, with the test under which it is given
-pub record TailBar : Type 0 where
-  pub why : TailRefusal
-  pub test : Bool
-
-infix 68 ◌whenever◌
-abbrev pub ◌whenever◌ : TailRefusal → Bool → TailBar
-why whenever test = record { why = why; test = test }
-
--- "else .. next .. then": the first whose test holds is given, and where none does, the call is done
-abbrev pub verdict : List TailBar → Verdict
-verdict [] = Done
-verdict (b ∷ bs) = pick b.test (Refused b.why) (verdict bs)
-
--- a row with one more bar behind it
-unfoldable pub barred : Verdict → Bool → TailRefusal → Verdict
-barred Done test why = pick test (Refused why) Done
-barred (Refused first) test why = Refused first
+abbrev pub says_finding : Result Finding TailRefusal → TailSaid
+says_finding (Ok (F.Same offset)) = tail_said 0 (0 ∷ offset ∷ [])
+says_finding (Ok F.Shrunk) = tail_said 0 (1 ∷ [])
+says_finding (Ok F.Unknown) = tail_said 0 (2 ∷ [])
+says_finding (Err w) = tail_said (tail_number w) []

@@ -6,9 +6,9 @@ use native.Mathlib.Omega.{arith}
 use lib.ListN.{length, length-append}
 use lib.Seq.{take_all, take_at}
 use borrow.Author.Tests.{leb-false, not-false}
-use Rattle.tail_answers.specs.TailAnswers.{verdict}
-use Rattle.tail_answers.specs.declared.Verdict.TheVariants.{Done}
-use Rattle.tail_answers.proofs.Rows.{clear}
+use Rattle.std.specs.Prelude.{Ok}
+use Rattle.bars.specs.Bars.{verdict}
+use Rattle.bars.proofs.Verdicts.{clear}
 use Rattle.tail_table.specs.Table.{tails_of, file_of, used_of, ascending, entered, without, moved_to, over_first, zeroes}
 use Rattle.tail_table.specs.TailCalls.{add_row, remove_row, move_row}
 use Rattle.tail_table.specs.Sweeping.{place_of}
@@ -35,7 +35,7 @@ module _ (words : List ℕ) (used : ℕ) (o : Sound (table_of words used)) where
   pub as_it_is : Leaves words used us
   as_it_is = record { table = o; holds = refl }
 
-  pub add_leaves : (t : Tail) → verdict (add_row words used t) ≡ Done → Leaves (over_first (entered t us) words) (used + 1) (entered t us)
+  pub add_leaves : (t : Tail) → verdict (add_row words used t) ≡ Ok tt → Leaves (over_first (entered t us) words) (used + 1) (entered t us)
   add_leaves t h =
       let k = clear (add_row words used t) h in
       let r = leb-false (length (tails_of words)) used k.1.1.1.0 in
@@ -44,7 +44,7 @@ module _ (words : List ℕ) (used : ℕ) (o : Sound (table_of words used)) where
       let e = take_all (used + 1) (entered t us) (omega (arith, n, m)) in
       first e (leaves words used o (entered t us) (omega (arith, n, m, r)) (used + 1) (omega (arith, n, m)) (ap ascending e ∙ entered_order t us ready.order k.1.1.0))
 
-  pub remove_leaves : (f : File) → verdict (remove_row words used f) ≡ Done → Leaves (over_first (without f us ++ zeroes ∷ []) words) (used - 1) (without f us)
+  pub remove_leaves : (f : File) → verdict (remove_row words used f) ≡ Ok tt → Leaves (over_first (without f us ++ zeroes ∷ []) words) (used - 1) (without f us)
   remove_leaves f h =
       let k = clear (remove_row words used f) h in
       let there = not-false _ k.1.1.0 in
@@ -56,7 +56,7 @@ module _ (words : List ℕ) (used : ℕ) (o : Sound (table_of words used)) where
       let e = take_at (without f us) (zeroes ∷ []) (used - 1) (omega (arith, c, s, m)) in
       first e (leaves words used o (without f us ++ zeroes ∷ []) (omega (arith, c, s, m, n, w)) (used - 1) (omega (arith, c, s, m, n)) (ap ascending e ∙ without_order f us ready.order))
 
-  pub move_leaves : (t : Tail) (c : Claim) → verdict (move_row words used t c) ≡ Done → Leaves (over_first (moved_to t.offset (file_of t) us) words) used (moved_to t.offset (file_of t) us)
+  pub move_leaves : (t : Tail) (c : Claim) → verdict (move_row words used t c) ≡ Ok tt → Leaves (over_first (moved_to t.offset (file_of t) us) words) used (moved_to t.offset (file_of t) us)
   move_leaves t c h =
       let n = moved-long (file_of t) t.offset us in
       let m = used_long ready in

@@ -10,10 +10,11 @@ use lib.Dec.{ltb}
 use Rattle.choice.specs.Pick.{pick, ◌or◌}
 use Rattle.choice.proofs.Picks.{picked}
 use Rattle.choice.proofs.Tests.{never}
-use Rattle.tail_answers.specs.TailAnswers.{TailBar, says_verdict, verdict}
+use Rattle.std.specs.Prelude.{Ok, Err}
+use Rattle.bars.specs.Bars.{Bar, verdict}
+use Rattle.tail_answers.specs.TailAnswers.{Verdict, says_verdict}
+use Rattle.tail_answers.specs.declared.TailRefusal.{TailRefusal}
 use Rattle.tail_answers.specs.declared.TailRefusal.TheVariants.{Full, Present, Backward, Absent, Unstamped}
-use Rattle.tail_answers.specs.declared.Verdict.{Verdict}
-use Rattle.tail_answers.specs.declared.Verdict.TheVariants.{Done, Refused}
 use Rattle.tail_answers.specs.declared.Finding.{Finding}
 use Rattle.tail_answers.specs.declared.Finding.TheVariants as F
 use Rattle.tail_table.specs.Table.{used_of, stands, saved_of, file_of, entered, without, moved_to, over_first, zeroes}
@@ -38,33 +39,33 @@ abbrev pub Fair : Verdict → Type 0
 Fair v = ((says_verdict v).number ≢ 6) × ((says_verdict v).number ≢ 7)
 
 answered : (v : Verdict) (words : List ℕ) (used : ℕ) (words' : List ℕ) (used' : ℕ) → Fair v → Fair (settled v used words used' words').answer
-answered Done words used words' used' h = h
-answered (Refused why) words used words' used' h = h
+answered (Ok u) words used words' used' h = h
+answered (Err why) words used words' used' h = h
 
-done : Fair Done
+done : Fair (Ok tt)
 done = (omega arith, omega arith)
 
-full : Fair (Refused Full)
+full : Fair (Err Full)
 full = (omega arith, omega arith)
 
-present : Fair (Refused Present)
+present : Fair (Err Present)
 present = (omega arith, omega arith)
 
-backward : Fair (Refused Backward)
+backward : Fair (Err Backward)
 backward = (omega arith, omega arith)
 
-absent : Fair (Refused Absent)
+absent : Fair (Err Absent)
 absent = (omega arith, omega arith)
 
-unstamped : Fair (Refused Unstamped)
+unstamped : Fair (Err Unstamped)
 unstamped = (omega arith, omega arith)
 
 -- a row is fair where each refusal is that can be given
-abbrev Fairly : List TailBar → Type 0
+abbrev Fairly : List (Bar TailRefusal) → Type 0
 Fairly [] = true ≡ true
-Fairly (b ∷ bs) = (b.test ≡ true → Fair (Refused b.why)) × Fairly bs
+Fairly (b ∷ bs) = (b.test ≡ true → Fair (Err b.why)) × Fairly bs
 
-fairly : (bs : List TailBar) → Fairly bs → Fair (verdict bs)
+fairly : (bs : List (Bar TailRefusal)) → Fairly bs → Fair (verdict bs)
 fairly [] h = done
 fairly (b ∷ bs) h = picked Fair b.test h.0 (λ e. fairly bs h.1)
 
@@ -72,22 +73,14 @@ whole_too : {u w : Bool} → u ≡ false → w ≡ true → u or not w ≡ false
 unfolding ◌or◌
 whole_too p q = simp (p, q)
 
-looked : (v : Verdict) (x : Finding) → Fair v → Fair (verdict_of x) → Fair (verdict_of (found v x))
-looked Done x h k = k
-looked (Refused why) x h k = h
-
--- what is found is no refusal
-found_fair : (a b : Bool) (offset : ℕ) → Fair (verdict_of (pick a F.Unknown (pick b F.Shrunk (F.Same offset))))
-unfolding pick
-found_fair true b offset = done
-found_fair false true offset = done
-found_fair false false offset = done
+looked : (v : Verdict) (x : Finding) → Fair v → Fair (verdict_of (found v x))
+looked (Ok u) x h = done
+looked (Err why) x h = h
 
 fair : (c : TailCall) (s : TailTable) → Sound s → WholeFor c → Fair (answers c s)
 fair (finding f size c) s o w =
     looked (verdict (on_stamp s.words s.used c [])) (looked_up (used_of s.words s.used) f size)
     (fairly (on_stamp s.words s.used c []) ((λ e. never (sym e ∙ o.0)), ((λ e. never (sym e ∙ whole_too o.1 w)), ((λ e. unstamped), refl))))
-    (found_fair (not (stands (used_of s.words s.used) f)) (ltb size (saved_of (used_of s.words s.used) f)) (saved_of (used_of s.words s.used) f))
 fair (adding t) s o w =
     answered (verdict (add_row s.words s.used t)) s.words s.used _ _
     (fairly (add_row s.words s.used t) ((λ e. never (sym e ∙ o.0)), ((λ e. never (sym e ∙ o.1)), ((λ e. present), ((λ e. full), refl)))))

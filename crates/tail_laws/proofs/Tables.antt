@@ -10,10 +10,10 @@ use borrow.Author.Tests.{le-ltb}
 use Rattle.choice.specs.Pick.{pick, ◌or◌}
 use Rattle.wholeness.specs.Whole.{whole}
 use Rattle.step_stamps.specs.Stamping.{passes}
-use Rattle.tail_answers.specs.TailAnswers.{◌whenever◌, verdict}
+use Rattle.std.specs.Prelude.{Ok, Err}
+use Rattle.bars.specs.Bars.{◌whenever◌, verdict}
+use Rattle.tail_answers.specs.TailAnswers.{Verdict}
 use Rattle.tail_answers.specs.declared.TailRefusal.TheVariants.{Damaged, Unstamped}
-use Rattle.tail_answers.specs.declared.Verdict.{Verdict}
-use Rattle.tail_answers.specs.declared.Verdict.TheVariants.{Done, Refused}
 use Rattle.tail_table.specs.Table.{tails_of, other_words, used_of, unsound, ascending, over_first}
 use Rattle.tail_table.specs.TailCalls.{table_left, settled, found, looked_up, find_of}
 use Rattle.tail_table.specs.declared.Tail.{Tail}
@@ -65,14 +65,14 @@ module _ (words : List ℕ) (used : ℕ) (o : Sound (table_of words used)) (us :
 
 -- what is said of both a table that stays and one that a call leaves, is said of what it leaves
 pub either_way : (P : TailTable → Type 0) (v : Verdict) (words : List ℕ) (used : ℕ) (words' : List ℕ) (used' : ℕ)
-    → P (table_of words used) → (v ≡ Done → P (table_of words' used')) → P (keeps (settled v used words used' words'))
-either_way P Done words used words' used' p q = q refl
-either_way P (Refused why) words used words' used' p q = p
+    → P (table_of words used) → (v ≡ Ok tt → P (table_of words' used')) → P (keeps (settled v used words used' words'))
+either_way P (Ok u) words used words' used' p q = q refl
+either_way P (Err why) words used words' used' p q = p
 
 -- a call that was done had a row without a refusal, and leaves what it is to leave
-pub was_done : (v : Verdict) (words : List ℕ) (used : ℕ) (words' : List ℕ) (used' : ℕ) → (settled v used words used' words').answer ≡ Done → (v ≡ Done) × (settled v used words used' words' ≡ table_left Done used' words')
-was_done Done words used words' used' h = (refl, refl)
-was_done (Refused why) words used words' used' h = (h, ap (λ (x : Verdict). settled x used words used' words') h)
+pub was_done : (v : Verdict) (words : List ℕ) (used : ℕ) (words' : List ℕ) (used' : ℕ) → (settled v used words used' words').answer ≡ Ok tt → (v ≡ Ok tt) × (settled v used words used' words' ≡ table_left (Ok tt) used' words')
+was_done (Ok u) words used words' used' h = (refl, refl)
+was_done (Err why) words used words' used' h = (h, ap (λ (x : Verdict). settled x used words used' words') h)
 
 -- finding in a sound table is refused by its claim alone
 abbrev pub claimed : Claim → Verdict

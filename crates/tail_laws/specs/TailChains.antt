@@ -1,11 +1,10 @@
 -- Document 02, request 2, in chains: the calls on a tail table as one type, what each leaves, and when a table is sound. Assumes nothing.
-use Rattle.std.specs.Prelude.{ℕ, ◌≡◌, true, false, List, [], ◌∷◌, length}
+use Rattle.tail_answers.specs.TailAnswers.{Verdict}
+use Rattle.std.specs.Prelude.{ℕ, ◌≡◌, true, false, List, [], ◌∷◌, length, Result, Ok, Err}
 use Rattle.wholeness.specs.Whole.{whole}
 use Rattle.step_stamps.specs.Stamping.{passes}
-use Rattle.tail_answers.specs.declared.Verdict.{Verdict}
-use Rattle.tail_answers.specs.declared.Verdict.TheVariants.{Done, Refused}
+use Rattle.tail_answers.specs.declared.TailRefusal.{TailRefusal}
 use Rattle.tail_answers.specs.declared.Finding.{Finding}
-use Rattle.tail_answers.specs.declared.Finding.TheVariants as F
 use Rattle.tail_table.specs.Table.{other_words, unsound}
 use Rattle.tail_table.specs.TailCalls.{TableLeft, find_of, add_of, remove_of, move_of}
 use Rattle.tail_table.specs.declared.Tail.{Tail}
@@ -39,11 +38,9 @@ after_all [] s = s
 after_all (c ∷ cs) s = after_all cs (after c s)
 
 -- whether a call is refused, and how
-abbrev pub verdict_of : Finding → Verdict
-verdict_of (F.Same offset) = Done
-verdict_of F.Shrunk = Done
-verdict_of F.Unknown = Done
-verdict_of (F.Refused why) = Refused why
+abbrev pub verdict_of : Result Finding TailRefusal → Verdict
+verdict_of (Ok found) = Ok tt
+verdict_of (Err why) = Err why
 
 abbrev pub answers : TailCall → TailTable → Verdict
 answers (finding f size c) s = verdict_of (find_of s.words s.used f size c)

@@ -7,7 +7,7 @@ ghost use Rattle.tail_answers.specs.TailAnswers.{says_verdict, says_finding};
 ghost use Rattle.tail_replies.specs.TailReplies.{tail_reply};
 
 use replies::Reply;
-use tail_answers::{Finding, Verdict};
+use tail_answers::{Finding, TailRefusal};
 
 // The number of a call that is not refused.
 const DONE: u64 = 0;
@@ -23,32 +23,32 @@ fn row(number: u64, count: usize, first: u64, second: u64) -> Reply
     ensures { result ≡ row_of number count first second 0 }
 {
     Reply {
-        number: number,
-        count: count,
-        first: first,
-        second: second,
+        number,
+        count,
+        first,
+        second,
         third: 0,
     }
 }
 
 // Adding, removing and moving.
-pub fn of_verdict(verdict: Verdict) -> Reply
+pub fn of_verdict(verdict: Result<(), TailRefusal>) -> Reply
     ensures { result ≡ tail_reply (says_verdict verdict) }
 {
     match verdict {
-        Verdict::Done => row(DONE, 1, 0, 0),
-        Verdict::Refused(why) => row(why.number(), 1, 0, 0),
+        Ok(()) => row(DONE, 1, 0, 0),
+        Err(why) => row(why.number(), 1, 0, 0),
     }
 }
 
 // Finding.
-pub fn of_finding(finding: Finding) -> Reply
+pub fn of_finding(finding: Result<Finding, TailRefusal>) -> Reply
     ensures { result ≡ tail_reply (says_finding finding) }
 {
     match finding {
-        Finding::Same(offset) => row(DONE, 3, SAME, offset),
-        Finding::Shrunk => row(DONE, 2, SHRUNK, 0),
-        Finding::Unknown => row(DONE, 2, UNKNOWN, 0),
-        Finding::Refused(why) => of_verdict(Verdict::Refused(why)),
+        Ok(Finding::Same(offset)) => row(DONE, 3, SAME, offset),
+        Ok(Finding::Shrunk) => row(DONE, 2, SHRUNK, 0),
+        Ok(Finding::Unknown) => row(DONE, 2, UNKNOWN, 0),
+        Err(why) => of_verdict(Err(why)),
     }
 }

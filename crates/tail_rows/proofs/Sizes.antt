@@ -5,13 +5,13 @@ use mathlib.Core.Bool.{Bool, true, false, not}
 use mathlib.Core.List.{List}
 use lib.ListN.{length, take}
 use borrow.Author.Tests.{ltb-false, eqb-true, not-false}
+use Rattle.std.specs.Prelude.{Result, Err}
+use Rattle.tail_answers.specs.TailAnswers.{Verdict}
 use Rattle.choice.specs.Pick.{pick}
 use Rattle.choice.proofs.Tests.{neither}
 use Rattle.tail_answers.specs.declared.TailRefusal.TheVariants.{BadArea}
-use Rattle.tail_answers.specs.declared.Verdict.{Verdict}
-use Rattle.tail_answers.specs.declared.Verdict.TheVariants.{Refused}
+use Rattle.tail_answers.specs.declared.TailRefusal.{TailRefusal}
 use Rattle.tail_answers.specs.declared.Finding.{Finding}
-use Rattle.tail_answers.specs.declared.Finding.TheVariants as F
 use Rattle.tail_table.specs.Table.{tails_of, words_of, other_words}
 use Rattle.tail_table.specs.TailCalls.{find_of, move_of, table_left}
 use Rattle.tail_table.specs.Sweeping.{room_of}
@@ -42,11 +42,11 @@ table words room e h =
     record { threes = eqb-true (length words % 3) 0 (not-false _ (neither a).0); most = ltb-false 768 (length words) (neither a).1; records = ap (λ (r : Room). r.records) e }
 
 -- of others the first refusal is given
-pub others_find : (words : List ℕ) (room : Room) (used : ℕ) (f : File) (size : ℕ) (c : Claim) → room ≡ room_of (length words) → not room.sized ≡ true → F.Refused BadArea ≡ find_of words used f size c
+pub others_find : (words : List ℕ) (room : Room) (used : ℕ) (f : File) (size : ℕ) (c : Claim) → room ≡ room_of (length words) → not room.sized ≡ true → Err BadArea ≡ find_of words used f size c
 unfolding pick
 others_find words room used f size c e h = let a = tested words room e h in simp a
 
-pub others_move : (words : List ℕ) (room : Room) (used : ℕ) (t : Tail) (c : Claim) → room ≡ room_of (length words) → not room.sized ≡ true → table_left (Refused BadArea) used words ≡ move_of words used t c
+pub others_move : (words : List ℕ) (room : Room) (used : ℕ) (t : Tail) (c : Claim) → room ≡ room_of (length words) → not room.sized ≡ true → table_left (Err BadArea) used words ≡ move_of words used t c
 unfolding pick
 others_move words room used t c e h = let a = tested words room e h in simp a
 
@@ -54,7 +54,7 @@ others_move words room used t c e h = let a = tested words room e h in simp a
 front_words : (words : List ℕ) (room : Room) (row : List Tail) → Table words room → take (length words / 3) row ≡ tails_of words → words_of (take room.records row) ≡ words
 front_words words room row o e = ap (λ (n : ℕ). words_of (take n row)) o.records ∙ ap words_of e ∙ words_back words o.threes
 
-pub front_find : (words : List ℕ) (room : Room) (row : List Tail) (used : ℕ) (f : File) (size : ℕ) (c : Claim) {r : Finding}
+pub front_find : (words : List ℕ) (room : Room) (row : List Tail) (used : ℕ) (f : File) (size : ℕ) (c : Claim) {r : Result Finding TailRefusal}
     → Table words room → take (length words / 3) row ≡ tails_of words → r ≡ find_of (words_of (take room.records row)) used f size c → r ≡ find_of words used f size c
 front_find words room row used f size c o e h = h ∙ ap (λ (ws : List ℕ). find_of ws used f size c) (front_words words room row o e)
 

@@ -7,9 +7,9 @@ use lib.Dec.{T, leb, leb→le}
 use lib.ListN.{length, take}
 use lib.Seq.{set_out}
 use native.Mathlib.Omega.{arith}
+use Rattle.std.specs.Prelude.{Ok, Err}
+use Rattle.tail_answers.specs.TailAnswers.{Verdict}
 use Rattle.choice.specs.Pick.{pick, ◌and◌}
-use Rattle.tail_answers.specs.declared.Verdict.{Verdict}
-use Rattle.tail_answers.specs.declared.Verdict.TheVariants.{Done, Refused}
 use Rattle.tail_table.specs.Table.{most_records, words_of, file_of}
 use Rattle.tail_table.specs.TailCalls.{find_of, move_of, TableLeft, table_left}
 use Rattle.tail_table.specs.Sweeping.{room_of, room_for, reach_of, swept, find_by, move_by, placed}
@@ -51,8 +51,8 @@ itself n = omega arith
 -- the record that is stored to
 stored : (v : Verdict) (place offset : ℕ) (ts : List Tail) → offset_set (stored_at v place (length ts)) offset ts ≡ placed v place offset ts
 unfolding offset_set
-stored Done place offset ts = refl
-stored (Refused why) place offset ts = set_out ts (length ts) _ (itself (length ts))
+stored (Ok u) place offset ts = refl
+stored (Err why) place offset ts = set_out ts (length ts) _ (itself (length ts))
 
 -- a table's words are three to a record
 thirds : (n : ℕ) → n * 3 % 3 ≡ 0

@@ -1,7 +1,7 @@
 -- What finding and moving see of a slice of tail structs, and what moving decides and does. Assumes nothing.
+use Rattle.std.specs.Prelude.{Ok, Err}
+use Rattle.tail_answers.specs.TailAnswers.{Verdict}
 use Rattle.std.specs.Prelude.{ℕ, List, length, take, get_or, set}
-use Rattle.tail_answers.specs.declared.Verdict.{Verdict}
-use Rattle.tail_answers.specs.declared.Verdict.TheVariants.{Done, Refused}
 use Rattle.tail_table.specs.Table.{file_of, with_offset, zeroes}
 use Rattle.tail_table.specs.Sweeping.{room_for, reach_of, swept, move_by}
 use Rattle.tail_table.specs.declared.Tail.{Tail}
@@ -16,8 +16,8 @@ looked ts used f = swept (take (reach_of (room_for (length ts)) used) ts) f
 
 -- where an answer has the offset stored, of n records: past the end where it is a refusal
 abbrev pub stored_at : Verdict → ℕ → ℕ → ℕ
-stored_at Done place n = place
-stored_at (Refused why) place n = n
+stored_at (Ok u) place n = place
+stored_at (Err why) place n = n
 
 abbrev pub decision : Verdict → ℕ → ℕ → Decision
 decision v place n = record { answer = v; at = stored_at v place n }

@@ -13,10 +13,11 @@ use Rattle.choice.proofs.Tests.{test, both, join, neither}
 use Rattle.choice.proofs.Picks.{yes, no, picked}
 use Rattle.wholeness.specs.Whole.{whole}
 use Rattle.step_stamps.specs.Stamping.{passes}
-use Rattle.tail_answers.specs.TailAnswers.{TailBar, ◌whenever◌, verdict}
+use Rattle.std.specs.Prelude.{Err}
+use Rattle.bars.specs.Bars.{Bar, ◌whenever◌, verdict}
+use Rattle.tail_answers.specs.TailAnswers.{Verdict}
+use Rattle.tail_answers.specs.declared.TailRefusal.{TailRefusal}
 use Rattle.tail_answers.specs.declared.TailRefusal.TheVariants.{BadArea, Damaged, Unstamped}
-use Rattle.tail_answers.specs.declared.Verdict.{Verdict}
-use Rattle.tail_answers.specs.declared.Verdict.TheVariants.{Refused}
 use Rattle.tail_table.specs.Table.{tails_of, other_words, used_of, unsound, ascending, stands}
 use Rattle.tail_table.specs.TailCalls.{found, looked_up, find_of}
 use Rattle.tail_table.specs.Sweeping.{room_of, room_for, reach_of, place_of, known, swept, unsound_by, looked_by, find_by}
@@ -58,14 +59,14 @@ ways words used f p q r s =
 
 module _ (words : List ℕ) (used : ℕ) (f : File) where
   -- a row of refusals by a sweep s: those of the table, with more in the test of its records, and then the call's own
-  abbrev row_of : (Bool → Bool) → (Sweep → List TailBar) → Sweep → Verdict
+  abbrev row_of : (Bool → Bool) → (Sweep → List (Bar TailRefusal)) → Sweep → Verdict
   row_of g own s = verdict (BadArea whenever not (room_of (length words)).sized ∷ Damaged whenever g (unsound_by (room_of (length words)) used s) ∷ own s)
 
-  broken : (g : Bool → Bool) (own : Sweep → List TailBar) (s : Sweep) → g true ≡ true → other_words (length words) ≡ false → s.ordered ≡ false → row_of g own s ≡ Refused Damaged
+  broken : (g : Bool → Bool) (own : Sweep → List (Bar TailRefusal)) (s : Sweep) → g true ≡ true → other_words (length words) ≡ false → s.ordered ≡ false → row_of g own s ≡ Err Damaged
   unfolding pick ◌or◌
   broken g own s t a o = simp (a, o) (true-too (ltb (length words / 3) used))
     where
-      true-too : (b : Bool) → pick (g (b || true)) (Refused Damaged) (verdict (own s)) ≡ Refused Damaged
+      true-too : (b : Bool) → pick (g (b || true)) (Err Damaged) (verdict (own s)) ≡ Err Damaged
       true-too true = simp t
       true-too false = simp t
 
@@ -73,10 +74,10 @@ module _ (words : List ℕ) (used : ℕ) (f : File) where
   unfolding unsound
   out_of_order o = in_second _ (ap not o)
 
-  broken_too : (g : Bool → Bool) (bs : List TailBar) → g true ≡ true → other_words (length words) ≡ false → ascending (used_of words used) ≡ false → Refused Damaged ≡ verdict (BadArea whenever other_words (length words) ∷ Damaged whenever g (unsound words used) ∷ bs)
+  broken_too : (g : Bool → Bool) (bs : List (Bar TailRefusal)) → g true ≡ true → other_words (length words) ≡ false → ascending (used_of words used) ≡ false → Err Damaged ≡ verdict (BadArea whenever other_words (length words) ∷ Damaged whenever g (unsound words used) ∷ bs)
   broken_too g bs t a o = no _ a (yes _ (ap g (out_of_order o) ∙ t) refl)
 
-  pub row_so : (g : Bool → Bool) (own : Sweep → List TailBar) → g true ≡ true
+  pub row_so : (g : Bool → Bool) (own : Sweep → List (Bar TailRefusal)) → g true ≡ true
       → row_of g own (seen words used f) ≡ verdict (BadArea whenever other_words (length words) ∷ Damaged whenever g (unsound words used) ∷ own (known (used_of words used) f))
   unfolding pick ◌or◌ unsound
   row_so g own t =
@@ -87,7 +88,7 @@ module _ (words : List ℕ) (used : ℕ) (f : File) where
       (λ a e. ap (row_of g own) e ∙ simp (a, sym (records words)))
 
   -- finding, by a row that refuses or not
-  abbrev stampBar : Claim → Sweep → List TailBar
+  abbrev stampBar : Claim → Sweep → List (Bar TailRefusal)
   stampBar c s = Unstamped whenever not (passes c.record c.domain c.stamp) ∷ []
 
   pub find_so : (size : ℕ) (c : Claim) → find_by (room_of (length words)) used (seen words used f) size c ≡ find_of words used f size c

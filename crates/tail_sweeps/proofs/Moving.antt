@@ -10,11 +10,12 @@ use Rattle.choice.specs.Pick.{◌or◌}
 use Rattle.choice.proofs.Tests.{neither}
 use Rattle.wholeness.specs.Whole.{whole}
 use Rattle.step_stamps.specs.Stamping.{passes}
-use Rattle.tail_answers.specs.TailAnswers.{TailBar, ◌whenever◌, verdict}
+use Rattle.std.specs.Prelude.{Ok, Err}
+use Rattle.bars.specs.Bars.{Bar, ◌whenever◌, verdict}
+use Rattle.tail_answers.specs.TailAnswers.{Verdict}
+use Rattle.tail_answers.specs.declared.TailRefusal.{TailRefusal}
 use Rattle.tail_answers.specs.declared.TailRefusal.TheVariants.{Unstamped, Absent, Backward}
-use Rattle.tail_answers.specs.declared.Verdict.{Verdict}
-use Rattle.tail_answers.specs.declared.Verdict.TheVariants.{Done, Refused}
-use Rattle.tail_answers.proofs.Rows.{clear}
+use Rattle.bars.proofs.Verdicts.{clear}
 use Rattle.tail_table.specs.Table.{tails_of, words_of, file_of, used_of, stands, moved_to, over_first, with_offset, zeroes}
 use Rattle.tail_table.specs.TailCalls.{table_left, settled, move_row, move_of}
 use Rattle.tail_table.specs.Sweeping.{room_of, place_of, move_by, placed}
@@ -30,7 +31,7 @@ module _ (words : List ℕ) (used : ℕ) (t : Tail) (c : Claim) where
   us = used_of words used
 
   -- the call's own refusals
-  abbrev own : Sweep → List TailBar
+  abbrev own : Sweep → List (Bar TailRefusal)
   own s = Unstamped whenever not (passes c.record c.domain c.stamp) ∷ Absent whenever not s.met ∷ Backward whenever ltb t.offset s.offset ∷ []
 
   pub moving : move_by (room_of (length words)) used (seen words used (file_of t)) t.offset c ≡ verdict (move_row words used t c)
@@ -42,7 +43,7 @@ module _ (words : List ℕ) (used : ℕ) (t : Tail) (c : Claim) where
     pub table : Sound words used
     pub there : stands us (file_of t) ≡ true
 
-  pub movable : verdict (move_row words used t c) ≡ Done → Movable
+  pub movable : verdict (move_row words used t c) ≡ Ok tt → Movable
   movable h =
       let k = clear (move_row words used t c) h in
       record { table = sound words used k.0 (neither k.1.0).0; there = not-false _ k.1.1.1.0 }
@@ -56,11 +57,11 @@ module _ (words : List ℕ) (used : ℕ) (t : Tail) (c : Claim) where
       ∙ ap (λ (k : ℕ). moved_to t.offset (file_of t) us ++ drop k (tails_of words)) (sym (moved-long (file_of t) t.offset us ∙ used_long m.table)))
 
   left : length words % 3 ≡ 0 → (v : Verdict) → v ≡ verdict (move_row words used t c) → table_left v used (words_of (placed v (seen words used (file_of t)).place t.offset (tails_of words))) ≡ settled v used words used (over_first (moved_to t.offset (file_of t) us) words)
-  left e (Refused why) h = ap (table_left (Refused why) used) (words_back words e)
-  left e Done h =
+  left e (Err why) h = ap (table_left (Err why) used) (words_back words e)
+  left e (Ok u) h =
       let m = movable (sym h) in
-      ap (λ (k : ℕ). table_left Done used (words_of (placed Done k t.offset (tails_of words)))) (place_so m.table refl refl m.there)
-      ∙ ap (table_left Done used) (moved_so m)
+      ap (λ (k : ℕ). table_left (Ok tt) used (words_of (placed (Ok tt) k t.offset (tails_of words)))) (place_so m.table refl refl m.there)
+      ∙ ap (table_left (Ok tt) used) (moved_so m)
 
   pub move_so : length words % 3 ≡ 0
       → let s = seen words used (file_of t) in let v = move_by (room_of (length words)) used s t.offset c in table_left v used (words_of (placed v s.place t.offset (tails_of words))) ≡ move_of words used t c

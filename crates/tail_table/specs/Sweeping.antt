@@ -1,12 +1,12 @@
 -- How the calls of the tail table look at its used records, each once, and what they find: for both forms of the table. Assumes nothing.
-use Rattle.std.specs.Prelude.{ℕ, zero, suc, ◌/◌, Bool, true, false, not, List, [], ◌∷◌, eqb, leb, ltb, length, get_or, set}
+use Rattle.std.specs.Prelude.{ℕ, zero, suc, ◌/◌, Bool, true, false, not, List, [], ◌∷◌, eqb, leb, ltb, length, get_or, set, Result, Ok, Err}
 use Rattle.choice.specs.Pick.{pick, ◌and◌, ◌or◌}
 use Rattle.wholeness.specs.Whole.{whole}
 use Rattle.step_stamps.specs.Stamping.{passes}
-use Rattle.tail_answers.specs.TailAnswers.{TailBar, ◌whenever◌, verdict}
+use Rattle.bars.specs.Bars.{Bar, ◌whenever◌, verdict}
+use Rattle.tail_answers.specs.TailAnswers.{Verdict}
+use Rattle.tail_answers.specs.declared.TailRefusal.{TailRefusal}
 use Rattle.tail_answers.specs.declared.TailRefusal.TheVariants.{BadArea, Damaged, Full, Present, Backward, Absent, Unstamped}
-use Rattle.tail_answers.specs.declared.Verdict.{Verdict}
-use Rattle.tail_answers.specs.declared.Verdict.TheVariants.{Done, Refused}
 use Rattle.tail_answers.specs.declared.Finding.{Finding}
 use Rattle.tail_answers.specs.declared.Finding.TheVariants as F
 use Rattle.tail_table.specs.Table.{width, most_records, other_words, file_of, same, before, ascending, stands, saved_of, with_offset, zeroes}
@@ -78,10 +78,10 @@ swept ts f = swept_on (known [] f) 0 ts
 abbrev pub unsound_by : Room → ℕ → Sweep → Bool
 unsound_by room used s = ltb room.records used or not s.ordered
 
-abbrev pub by_table : Room → ℕ → Sweep → List TailBar → List TailBar
+abbrev pub by_table : Room → ℕ → Sweep → List (Bar TailRefusal) → List (Bar TailRefusal)
 by_table room used s own = BadArea whenever not room.sized ∷ Damaged whenever unsound_by room used s ∷ own
 
-abbrev pub by_stamp : Room → ℕ → Sweep → Claim → List TailBar → List TailBar
+abbrev pub by_stamp : Room → ℕ → Sweep → Claim → List (Bar TailRefusal) → List (Bar TailRefusal)
 by_stamp room used s c own =
     BadArea whenever not room.sized
     ∷ Damaged whenever (unsound_by room used s or not (whole c.record))
@@ -92,7 +92,7 @@ by_stamp room used s c own =
 abbrev pub looked_by : Sweep → ℕ → Finding
 looked_by s size = pick (not s.met) F.Unknown (pick (ltb size s.offset) F.Shrunk (F.Same s.offset))
 
-abbrev pub find_by : Room → ℕ → Sweep → ℕ → Claim → Finding
+abbrev pub find_by : Room → ℕ → Sweep → ℕ → Claim → Result Finding TailRefusal
 find_by room used s size c = found (verdict (by_stamp room used s c [])) (looked_by s size)
 
 abbrev pub add_by : Room → ℕ → Sweep → Verdict
@@ -106,8 +106,8 @@ move_by room used s offset c = verdict (by_stamp room used s c (Absent whenever 
 
 -- and the records after a move: where it is done, the one at its place has the offset
 abbrev pub placed : Verdict → ℕ → ℕ → List Tail → List Tail
-placed Done i offset ts = set ts i (with_offset offset (get_or ts i zeroes))
-placed (Refused why) i offset ts = ts
+placed (Ok u) i offset ts = set ts i (with_offset offset (get_or ts i zeroes))
+placed (Err why) i offset ts = ts
 
 -- the records without the one at a place
 abbrev pub cut : ℕ → List Tail → List Tail

@@ -3,13 +3,14 @@
 #![tactic(auto)]
 
 ghost use Rattle.std.specs.Prelude.{◌≡◌, []};
-ghost use Rattle.tail_answers.specs.TailAnswers.{verdict};
+ghost use Rattle.bars.specs.Bars.{verdict};
 ghost use Rattle.tail_table.specs.Table.{file_of, same, before};
 ghost use Rattle.tail_table.specs.Sweeping.{room_of, room_for, reach_of, swept, past, stepped, by_table, by_stamp, find_by, add_by, remove_by, move_by};
 
+use bars::bar;
 use record::Record;
-use step_stamps::{Checked, SaveStamp};
-use tail_answers::{Finding, TailRefusal, Verdict};
+use step_stamps::SaveStamp;
+use tail_answers::{Finding, TailRefusal};
 
 // The words of a record, and the most records of a table.
 pub const WIDTH: usize = 3;
@@ -24,8 +25,15 @@ pub struct Tail {
     pub offset: u64,
 }
 
-// The pair by which a file is known.
-#[derive(Clone, Copy)]
+// A record that is not in use.
+pub const NO_RECORD: Tail = Tail {
+    device: 0,
+    inode: 0,
+    offset: 0,
+};
+
+// The pair by which a file is known; in a table files stand by device, then by inode.
+#[derive(Clone, Copy, PartialEq, Eq, PartialOrd, Ord)]
 pub struct File {
     pub device: u64,
     pub inode: u64,
@@ -71,21 +79,6 @@ impl Tail {
     }
 }
 
-impl File {
-    pub fn is(self, other: File) -> bool
-        ensures { result ≡ same self other }
-    {
-        (self.device == other.device) & (self.inode == other.inode)
-    }
-
-    // By device, then by inode.
-    pub fn before(self, other: File) -> bool
-        ensures { result ≡ before self other }
-    {
-        (self.device < other.device) | ((self.device == other.device) & (self.inode < other.inode))
-    }
-}
-
 impl Room {
     pub fn of_words(n: usize) -> Room
         ensures { result ≡ room_of n }
@@ -123,12 +116,9 @@ impl Sweep {
         ensures { result ≡ swept [] file }
     {
         Sweep {
-            file: file,
+            file,
             count: 0,
-            last: File {
-                device: 0,
-                inode: 0,
-            },
+            last: NO_RECORD.file(),
             ordered: true,
             met: false,
             place: 0,
@@ -140,15 +130,11 @@ impl Sweep {
     fn past(self, last: File, number: usize, ordered: bool) -> Sweep
         ensures { result ≡ past self last number ordered }
     {
-        let file = self.file;
         Sweep {
-            file: file,
             count: number,
-            last: last,
-            ordered: ordered,
-            met: self.met,
-            place: self.place,
-            offset: self.offset,
+            last,
+            ordered,
+            ..self
         }
     }
 
@@ -156,21 +142,18 @@ impl Sweep {
     pub fn step(self, t: Tail, number: usize) -> Sweep
         ensures { result ≡ stepped self t number }
     {
-        let file = self.file;
-        let last = self.last;
         let this = t.file();
-        if !((self.count == 0) | last.before(this)) {
+        if !((self.count == 0) | (self.last < this)) {
             return self.past(this, number, false);
         }
-        if this.is(file) & !self.met {
+        if (this == self.file) & !self.met {
             return Sweep {
-                file: file,
                 count: number,
                 last: this,
-                ordered: self.ordered,
                 met: true,
                 place: self.count,
                 offset: t.offset,
+                ..self
             };
         }
         self.past(this, number, self.ordered)
@@ -178,66 +161,72 @@ impl Sweep {
 }
 
 // The refusals of the table alone.
-fn admit(room: Room, used: usize, s: Sweep) -> Verdict
+fn admit(room: Room, used: usize, s: Sweep) -> Result<(), TailRefusal>
     ensures { result ≡ verdict (by_table room used s []) }
 {
-    Verdict::Done
-        .bar(!room.sized, TailRefusal::BadArea)
-        .bar((room.records < used) | !s.ordered, TailRefusal::Damaged)
+    bar(!room.sized, TailRefusal::BadArea)?;
+    bar((room.records < used) | !s.ordered, TailRefusal::Damaged)
 }
 
 // The refusals of the table and of the stamp, which the transaction checks.
-fn admit_claim(room: Room, used: usize, s: Sweep, claim: Claim) -> Verdict
+fn admit_claim(room: Room, used: usize, s: Sweep, claim: Claim) -> Result<(), TailRefusal>
     ensures { result ≡ verdict (by_stamp room used s claim []) }
 {
-    let admitted = admit(room, used, s);
-    let record = claim.record;
-    let stamp = claim.stamp;
-    match transaction::check(record, claim.domain, stamp) {
-        Checked::Passes => admitted,
-        Checked::Fails => admitted.bar(true, TailRefusal::Unstamped),
-        Checked::Refused(_) => admitted.bar(true, TailRefusal::Damaged),
+    admit(room, used, s)?;
+    match transaction::check(claim.record, claim.domain, claim.stamp) {
+        Ok(passes) => bar(!passes, TailRefusal::Unstamped),
+        Err(_) => Err(TailRefusal::Damaged),
     }
 }
 
 // What finding answers.
-pub fn find_by(room: Room, used: usize, s: Sweep, size: u64, claim: Claim) -> Finding
+pub fn find_by(
+    room: Room,
+    used: usize,
+    s: Sweep,
+    size: u64,
+    claim: Claim,
+) -> Result<Finding, TailRefusal>
     ensures { result ≡ find_by room used s size claim }
 {
-    if let Verdict::Refused(why) = admit_claim(room, used, s, claim) {
-        return Finding::Refused(why);
-    }
+    admit_claim(room, used, s, claim)?;
     if !s.met {
-        return Finding::Unknown;
+        return Ok(Finding::Unknown);
     }
     if size < s.offset {
-        Finding::Shrunk
-    } else {
-        Finding::Same(s.offset)
+        return Ok(Finding::Shrunk);
     }
+    Ok(Finding::Same(s.offset))
 }
 
 // What adding answers.
-pub fn add_by(room: Room, used: usize, s: Sweep) -> Verdict
+pub fn add_by(room: Room, used: usize, s: Sweep) -> Result<(), TailRefusal>
     ensures { result ≡ add_by room used s }
 {
-    admit(room, used, s)
-        .bar(s.met, TailRefusal::Present)
-        .bar(room.records <= used, TailRefusal::Full)
+    admit(room, used, s)?;
+    bar(s.met, TailRefusal::Present)?;
+    bar(room.records <= used, TailRefusal::Full)
 }
 
 // What removing answers.
-pub fn remove_by(room: Room, used: usize, s: Sweep) -> Verdict
+pub fn remove_by(room: Room, used: usize, s: Sweep) -> Result<(), TailRefusal>
     ensures { result ≡ remove_by room used s }
 {
-    admit(room, used, s).bar(!s.met, TailRefusal::Absent)
+    admit(room, used, s)?;
+    bar(!s.met, TailRefusal::Absent)
 }
 
 // What moving to an offset answers.
-pub fn move_by(room: Room, used: usize, s: Sweep, offset: u64, claim: Claim) -> Verdict
+pub fn move_by(
+    room: Room,
+    used: usize,
+    s: Sweep,
+    offset: u64,
+    claim: Claim,
+) -> Result<(), TailRefusal>
     ensures { result ≡ move_by room used s offset claim }
 {
-    admit_claim(room, used, s, claim)
-        .bar(!s.met, TailRefusal::Absent)
-        .bar(offset < s.offset, TailRefusal::Backward)
+    admit_claim(room, used, s, claim)?;
+    bar(!s.met, TailRefusal::Absent)?;
+    bar(offset < s.offset, TailRefusal::Backward)
 }

@@ -6,11 +6,11 @@ use mathlib.Core.List.{List, [], ◌∷◌}
 use lib.Dec.{leb}
 use lib.ListN.{length}
 use borrow.Author.Tests.{leb-false}
-use Rattle.tail_answers.specs.TailAnswers.{◌whenever◌, verdict}
+use Rattle.std.specs.Prelude.{Ok}
+use Rattle.bars.specs.Bars.{◌whenever◌, verdict}
+use Rattle.tail_answers.specs.TailAnswers.{Verdict}
 use Rattle.tail_answers.specs.declared.TailRefusal.TheVariants.{Present, Full}
-use Rattle.tail_answers.specs.declared.Verdict.{Verdict}
-use Rattle.tail_answers.specs.declared.Verdict.TheVariants.{Done}
-use Rattle.tail_answers.proofs.Rows.{clear}
+use Rattle.bars.proofs.Verdicts.{clear}
 use Rattle.tail_table.specs.Table.{tails_of, file_of, used_of, stands}
 use Rattle.tail_table.specs.TailCalls.{on_table, add_row}
 use Rattle.tail_table.specs.Sweeping.{room_of, add_by}
@@ -36,5 +36,5 @@ module _ (words : List ℕ) (used : ℕ) (t : Tail) where
     pub table : Sound words used
     pub spare : used < length (tails_of words)
 
-  pub addable : verdict (add_row words used t) ≡ Done → Addable
+  pub addable : verdict (add_row words used t) ≡ Ok tt → Addable
   addable h = let k = clear (add_row words used t) h in record { table = sound words used k.0 k.1.0; spare = leb-false (length (tails_of words)) used k.1.1.1.0 }

@@ -4,8 +4,8 @@ use mathlib.Core.Path.{◌≡◌, ◌∙◌, ap}
 use mathlib.Core.List.{List}
 use native.Mathlib.Omega.{arith}
 use lib.ListN.{length, get_or, set}
-use Rattle.tail_answers.specs.TailAnswers.{verdict}
-use Rattle.tail_answers.specs.declared.Verdict.{Verdict}
+use Rattle.bars.specs.Bars.{verdict}
+use Rattle.tail_answers.specs.TailAnswers.{Verdict}
 use Rattle.tail_table.specs.Table.{tails_of, words_of, file_of, used_of, moved_to, over_first, with_offset, zeroes}
 use Rattle.tail_table.specs.TailCalls.{move_row}
 use Rattle.tail_table.specs.Sweeping.{room_of, place_of, move_by}

@@ -5,11 +5,11 @@ use mathlib.Core.Bool.{Bool, true, not}
 use mathlib.Core.List.{List, [], ◌∷◌, ◌++◌}
 use lib.ListN.{length}
 use borrow.Author.Tests.{not-false}
-use Rattle.tail_answers.specs.TailAnswers.{◌whenever◌, verdict}
+use Rattle.std.specs.Prelude.{Ok}
+use Rattle.bars.specs.Bars.{◌whenever◌, verdict}
+use Rattle.tail_answers.specs.TailAnswers.{Verdict}
 use Rattle.tail_answers.specs.declared.TailRefusal.TheVariants.{Absent}
-use Rattle.tail_answers.specs.declared.Verdict.{Verdict}
-use Rattle.tail_answers.specs.declared.Verdict.TheVariants.{Done}
-use Rattle.tail_answers.proofs.Rows.{clear}
+use Rattle.bars.proofs.Verdicts.{clear}
 use Rattle.tail_table.specs.Table.{used_of, stands, without, over_first, zeroes}
 use Rattle.tail_table.specs.TailCalls.{remove_row}
 use Rattle.tail_table.specs.Sweeping.{room_of, place_of, remove_by, cut}
@@ -34,7 +34,7 @@ module _ (words : List ℕ) (used : ℕ) (f : File) where
     pub table : Sound words used
     pub there : stands (used_of words used) f ≡ true
 
-  pub removable : verdict (remove_row words used f) ≡ Done → Removable
+  pub removable : verdict (remove_row words used f) ≡ Ok tt → Removable
   removable h = let k = clear (remove_row words used f) h in record { table = sound words used k.0 k.1.0; there = not-false _ k.1.1.0 }
 
   -- its record is one of those in use, and the others are what the definition leaves

@@ -4,29 +4,18 @@
 
 ghost use Rattle.std.specs.Prelude.{◌≡◌, ◌∷◌, [], ◌++◌, ◌+◌, ◌*◌, ◌%◌, ◌<◌, ◌≤◌, length, take, get_or, set};
 ghost use Rattle.tail_table.specs.Table.{tails_of, words_of, file_of, used_of, entered, over_first, record_put, zeroes};
-ghost use Rattle.tail_table.specs.TailCalls.{table_left, find_of, add_of, remove_of, move_of};
+ghost use Rattle.tail_table.specs.TailCalls.{table_left, counted, find_of, add_of, remove_of, move_of};
 ghost use Rattle.tail_table.specs.Sweeping.{room_of, reach_of, place_of, swept, cut};
 
-use tail_answers::{Finding, Verdict};
-use tail_table::{Claim, File, Room, Sweep, Tail, WIDTH, add_by, find_by, move_by, remove_by};
-
-// What adding or removing answers, and the count of used records.
-#[derive(Clone, Copy)]
-pub struct Counted {
-    pub answer: Verdict,
-    pub used: usize,
-}
+use tail_answers::{Finding, TailRefusal};
+use tail_table::{Claim, File, NO_RECORD, Room, Sweep, Tail, WIDTH, add_by, find_by, move_by, remove_by};
 
 // Record i of the words; past the end stand zeroes.
 pub fn tail_at(words: &[u64], i: usize) -> Tail
     ensures { result ≡ get_or (tails_of words.now) i zeroes }
 {
     if words.len() / WIDTH <= i {
-        return Tail {
-            device: 0,
-            inode: 0,
-            offset: 0,
-        };
+        return NO_RECORD;
     }
     let at = i * WIDTH;
     Tail {
@@ -65,11 +54,8 @@ fn sweep(words: &[u64], used: usize, file: File) -> Sweep
 {
     let n = Room::of_words(words.len()).reach(used);
     let mut s = Sweep::start(file);
-    let mut i = 0;
-    while i < n {
-        let t = tail_at(words, i);
-        i += 1;
-        s = s.step(t, i);
+    for i in 0..n {
+        s = s.step(tail_at(words, i), i + 1);
     }
     s
 }
@@ -79,13 +65,11 @@ fn place_of(words: &[u64], used: usize, file: File) -> usize
     requires { used ≤ length (tails_of words.now) }
     ensures { result ≡ place_of (used_of words.now used) file }
 {
-    let mut i = 0;
-    while i < used {
-        let this = tail_at(words, i).file();
-        if !this.before(file) {
+    // An index, not an iterator: the answer is the place where it stops.
+    for i in 0..used {
+        if file <= tail_at(words, i).file() {
             return i;
         }
-        i += 1;
     }
     used
 }
@@ -95,13 +79,12 @@ fn put_in(words: &mut [u64], used: usize, t: Tail)
     requires { (length words.old % 3 ≡ 0) × (used < length (tails_of words.old)) }
     ensures { words.new ≡ over_first (entered t (used_of words.old used)) words.old }
 {
+    let place = place_of(words, used, t.file());
     let mut carried = t;
-    let mut i = place_of(words, used, t.file());
-    while i < used {
+    for i in place..used {
         let next = tail_at(words, i);
         put_tail(words, i, carried);
         carried = next;
-        i += 1;
     }
     put_tail(words, used, carried);
 }
@@ -112,75 +95,58 @@ fn take_out(words: &mut [u64], place: usize, used: usize)
     ensures { words.new ≡ over_first (cut place (used_of words.old used) ++ zeroes ∷ []) words.old }
 {
     let last = used - 1;
-    let mut i = place;
-    while i < last {
+    for i in place..last {
         let next = tail_at(words, i + 1);
         put_tail(words, i, next);
-        i += 1;
     }
-    let freed = Tail {
-        device: 0,
-        inode: 0,
-        offset: 0,
-    };
-    put_tail(words, last, freed);
+    put_tail(words, last, NO_RECORD);
 }
 
 // Whether a file is the one whose offset was saved, by its size, under a stamp that still passes.
-pub fn find(words: &[u64], used: usize, file: File, size: u64, claim: Claim) -> Finding
+pub fn find(
+    words: &[u64],
+    used: usize,
+    file: File,
+    size: u64,
+    claim: Claim,
+) -> Result<Finding, TailRefusal>
     ensures { result ≡ find_of words.now used file size claim }
 {
     let s = sweep(words, used, file);
     find_by(Room::of_words(words.len()), used, s, size, claim)
 }
 
-// A record for a file that has none.
-pub fn add(words: &mut [u64], used: usize, tail: Tail) -> Counted
-    ensures { table_left result.answer result.used words.new ≡ add_of words.old used tail }
+// A record for a file that has none; it answers how many are in use then.
+pub fn add(words: &mut [u64], used: usize, tail: Tail) -> Result<usize, TailRefusal>
+    ensures { counted result used words.new ≡ add_of words.old used tail }
 {
     let s = sweep(words, used, tail.file());
-    let answer = add_by(Room::of_words(words.len()), used, s);
-    if let Verdict::Refused(why) = answer {
-        return Counted {
-            answer: Verdict::Refused(why),
-            used: used,
-        };
-    }
+    add_by(Room::of_words(words.len()), used, s)?;
     put_in(words, used, tail);
-    Counted {
-        answer: Verdict::Done,
-        used: used + 1,
-    }
+    Ok(used + 1)
 }
 
-// The record of a file, taken out.
-pub fn remove(words: &mut [u64], used: usize, file: File) -> Counted
-    ensures { table_left result.answer result.used words.new ≡ remove_of words.old used file }
+// The record of a file, taken out; it answers how many are in use then.
+pub fn remove(words: &mut [u64], used: usize, file: File) -> Result<usize, TailRefusal>
+    ensures { counted result used words.new ≡ remove_of words.old used file }
 {
     let s = sweep(words, used, file);
-    let answer = remove_by(Room::of_words(words.len()), used, s);
-    if let Verdict::Refused(why) = answer {
-        return Counted {
-            answer: Verdict::Refused(why),
-            used: used,
-        };
-    }
+    remove_by(Room::of_words(words.len()), used, s)?;
     take_out(words, s.place, used);
-    Counted {
-        answer: Verdict::Done,
-        used: used - 1,
-    }
+    Ok(used - 1)
 }
 
 // A file's saved offset moved on, under a stamp that still passes.
-pub fn move_offset(words: &mut [u64], used: usize, tail: Tail, claim: Claim) -> Verdict
+pub fn move_offset(
+    words: &mut [u64],
+    used: usize,
+    tail: Tail,
+    claim: Claim,
+) -> Result<(), TailRefusal>
     ensures { table_left result used words.new ≡ move_of words.old used tail claim }
 {
     let s = sweep(words, used, tail.file());
-    let answer = move_by(Room::of_words(words.len()), used, s, tail.offset, claim);
-    if let Verdict::Refused(why) = answer {
-        return Verdict::Refused(why);
-    }
+    move_by(Room::of_words(words.len()), used, s, tail.offset, claim)?;
     put_offset(words, s.place, tail.offset);
-    Verdict::Done
+    Ok(())
 }

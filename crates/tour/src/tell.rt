@@ -1,7 +1,8 @@
 // What the tour writes, and the work that stands in for an agent's: it says what it does.
+use answers::Refusal;
 use record::{Outcome, Record, Reporting, Stepped};
 use std::io;
-use step_stamps::{Checked, Stamping};
+use step_stamps::SaveStamp;
 
 // The domain of the plan.
 pub(crate) const DOMAIN: u64 = 3;
@@ -57,11 +58,10 @@ pub(crate) fn ended(rt: &impl Print, by: End, last: Stepped) -> io::Result<()> {
 }
 
 // Writes 1 where the stamp of a plan passes, and 0 where it does not.
-pub(crate) fn verdict(rt: &impl Print, r: Record, plan: Stamping) -> io::Result<()> {
-    let Stamping::Taken(stamp) = plan else {
+pub(crate) fn verdict(rt: &impl Print, r: Record, plan: Result<SaveStamp, Refusal>) -> io::Result<()> {
+    let Ok(stamp) = plan else {
         return Ok(());
     };
-    let checked = transaction::check(r, DOMAIN, stamp);
-    let passes = if let Checked::Passes = checked { 1 } else { 0 };
-    tell(rt, "the stamp passes: ", passes)
+    let passes = transaction::check(r, DOMAIN, stamp) == Ok(true);
+    tell(rt, "the stamp passes: ", u64::from(passes))
 }

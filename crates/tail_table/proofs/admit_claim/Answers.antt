@@ -1,12 +1,18 @@
 -- `tail_table::admit_claim` meets its contract: a return for each answer of the transaction's check. Assumes nothing.
-use Rattle.tail_table.proofs.Claims.{passed, failed, turned_away_lem}
+use Rattle.std.proofs.Common.{◌≡◌, not, Err, ◌∙◌, rules}
+use Rattle.wholeness.specs.Whole.{whole}
+use Rattle.step_stamps.specs.Stamping.{passes}
+use Rattle.tail_table.specs.Sweeping.{unsound_by}
+use Rattle.tail_table.proofs.Claims.{turned_back, checks, at_stamp, at_record}
 use Rattle.tail_table.proofs.admit_claim.Goals as goal
 
-pub returns-in-Passes : goal.returns-in-Passes
-returns-in-Passes c = passed _ _ _ _ c.check.ensures c.admit-admitted.ensures c.in-Passes.is
+pub returns-in_err-admit : goal.returns-in_err-admit
+returns-in_err-admit c =
+    let e : c.from_residual.result ≡ Err c.in_err-admit.field-0.0 = search rules in
+    e ∙ turned_back _ _ _ _ c.admit.ensures c.in_err-admit.was
 
-pub returns-in-Fails : goal.returns-in-Fails
-returns-in-Fails c = failed _ _ _ _ c.check.ensures c.admit-admitted.ensures c.in-Fails.is c.bar.ensures
+pub returns-in-Ok : goal.returns-in-Ok
+returns-in-Ok c = at_stamp _ _ _ _ c.admit.ensures c.in_ok-admit.was (checks _ _ _ _ c.check.ensures) c.in-Ok.is c.bar.ensures
 
-pub returns-in-Refused : goal.returns-in-Refused
-returns-in-Refused c = turned_away_lem _ _ _ _ c.check.ensures c.admit-admitted.ensures c.in-Refused.is c.bar-in-Refused.ensures
+pub returns-in-Err : goal.returns-in-Err
+returns-in-Err c = at_record _ _ _ _ c.admit.ensures c.in_ok-admit.was (checks _ _ _ _ c.check.ensures) c.in-Err.is

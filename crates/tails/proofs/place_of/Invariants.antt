@@ -1,5 +1,4 @@
 -- `tails::place_of` meets its contract: the records below i stand before the file. Assumes nothing.
-use Prim.Native.Nat.{◌-◌, ◌≤◌}
 use mathlib.Core.Path.{◌≡◌}
 use mathlib.Core.Bool.{true}
 use lib.ListN.{take}
@@ -8,7 +7,4 @@ use Rattle.tail_table.specs.Sweeping.{ahead}
 use Rattle.tails.proofs.place_of.Given as goal
 
 abbrev pub invariant-loop-i : goal.invariant-loop-i
-invariant-loop-i l = (l.i ≤ l.used) × (ahead (take l.i (used_of l.words l.used)) l.file ≡ true)
-
-abbrev pub decreases-loop-i : goal.decreases-loop-i
-decreases-loop-i l = l.used - l.i
+invariant-loop-i l = ahead (take l.i (used_of l.words l.used)) l.file ≡ true
