@@ -57,4 +57,4 @@ read_as line found =
     pick (eqb (length line) 0) Nothing
     (pick (eqb (get_or line 0 0) (code "#")) Nothing
     (pick (ltb 1000 (length line)) Bad
-    (pick (first_fitting line templates).found found Bad)))
+    (pick (is_some (first_fitting line templates)) found Bad)))
