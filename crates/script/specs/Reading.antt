@@ -1,5 +1,6 @@
 -- The templates of the commands, and what the driver's page says of a line before a command is looked for in it. Assumes nothing.
 use Rattle.std.specs.Prelude.{ℕ, List, [], ◌∷◌, ◌++◌, eqb, ltb, length, get_or}
+use Rattle.std.specs.Option.{is_some}
 use Prim.Native.Char.{code}
 use Prim.Native.String.{String}
 use Rattle.choice.specs.Pick.{pick}
