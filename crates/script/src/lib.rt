@@ -11,6 +11,7 @@ use templates::first_fitting;
 // The most bytes that a line may have, without its newline.
 pub const LONGEST: usize = 1000;
 
+#[tactic(auto, unfolding(crate::specs::Reading::read_as, choice::specs::Pick::pick))]
 // The command of a line. An empty line and a comment say nothing, however long.
 pub fn read(line: &[u8]) -> Command
     ensures { result ≡ read_as line.now result }
