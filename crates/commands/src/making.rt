@@ -13,7 +13,7 @@ type Numbers = [u64; FIELDS];
 fn seeded(count: u64, seed: u64) -> Seeded {
     Seeded {
         count: count as usize,
-        seed: seed,
+        seed,
     }
 }
 
@@ -27,10 +27,9 @@ fn outcome(number: u64, code: u64) -> Outcome {
 }
 
 fn reporting(n: Numbers) -> Reporting {
-    let outcome = outcome(n[1], n[2]);
     Reporting {
         ticket: n[0],
-        outcome: outcome,
+        outcome: outcome(n[1], n[2]),
     }
 }
 
@@ -39,21 +38,14 @@ fn lend(area: Area, count: usize) -> Command {
     if area.held() < count {
         return Command::Bad;
     }
-    Command::Lend {
-        area: area,
-        count: count,
-    }
+    Command::Lend { area, count }
 }
 
 fn put(area: Area, at: usize, value: u64) -> Command {
-    if (area.held() <= at) | (area.most() < value) {
+    if area.held() <= at || area.most() < value {
         return Command::Bad;
     }
-    Command::Put {
-        area: area,
-        at: at,
-        value: value,
-    }
+    Command::Put { area, at, value }
 }
 
 fn preparing(key: u8, n: Numbers) -> Command {
@@ -89,13 +81,13 @@ fn bring(new: u64, new_seed: u64, old: u64, old_seed: u64, call: Bringing) -> Co
             candidate: seeded(new, new_seed),
             recovery: seeded(old, old_seed),
         },
-        call: call,
+        call,
     }
 }
 
 fn begin(structural: bool, n: Numbers) -> Command {
     let call = Bringing::Begin {
-        structural: structural,
+        structural,
         pairs: seeded(n[4], n[5]),
     };
     bring(n[0], n[1], n[2], n[3], call)
@@ -108,7 +100,7 @@ fn report_structure(n: Numbers) -> Command {
 
 fn report(undoing: bool, n: Numbers) -> Working {
     Working::Report {
-        undoing: undoing,
+        undoing,
         given: reporting(n),
         payload: n[3],
     }
@@ -130,16 +122,16 @@ fn ending(key: u8, length: usize) -> Ending {
         b'R' => Ending::RecoverRetained,
         _ => Ending::Snapshot {
             refreshing: key == b'n',
-            length: length,
+            length,
         },
     }
 }
 
 fn stamp(domain: u64, revision: u64, replacements: u64) -> SaveStamp {
     SaveStamp {
-        domain: domain,
-        revision: revision,
-        replacements: replacements,
+        domain,
+        revision,
+        replacements,
     }
 }
 
@@ -156,7 +148,7 @@ fn planning(key: u8, n: Numbers) -> Planning {
 fn marking(key: u8, id: u64, flag: u64) -> Marking {
     match key {
         b'L' => Marking::Link {
-            id: id,
+            id,
             domain: flag == 1,
         },
         b'I' => Marking::Initialize(id),
@@ -166,9 +158,9 @@ fn marking(key: u8, id: u64, flag: u64) -> Marking {
 
 fn tail(device: u64, inode: u64, offset: u64) -> Tail {
     Tail {
-        device: device,
-        inode: inode,
-        offset: offset,
+        device,
+        inode,
+        offset,
     }
 }
 
@@ -186,7 +178,7 @@ fn tailing(key: u8, n: Numbers) -> Tailing {
         },
         _ => Tailing::Move {
             structs: key == b'N',
-            tail: tail,
+            tail,
             domain: n[3],
             stamp: stamp(n[4], n[5], n[6]),
         },

@@ -9,10 +9,10 @@ modulus = 4294967291
 abbrev pub next : ℕ → ℕ → ℕ
 next h v = (h * 31 + v % modulus + 1) % modulus
 
--- what h is after the elements that are left
-unfoldable pub digest_from : ℕ → List ℕ → ℕ
-digest_from h [] = h
-digest_from h (v ∷ rest) = digest_from (next h v) rest
+-- what h is after the elements that are left, of which each has a value
+unfoldable pub digest_from : {A : Type 0} → (A → ℕ) → ℕ → List A → ℕ
+digest_from value h [] = h
+digest_from value h (v ∷ rest) = digest_from value (next h (value v)) rest
 
-abbrev pub digest_of : List ℕ → ℕ
-digest_of l = digest_from 0 l
+abbrev pub digest_of : {A : Type 0} → (A → ℕ) → List A → ℕ
+digest_of value l = digest_from value 0 l

@@ -1,39 +1,50 @@
 // Digests of bytes and of words. No function asks anything of its caller.
 #![tactic(auto)]
 
-ghost use Rattle.std.specs.Prelude.{◌≡◌, ◌%◌};
-ghost use Rattle.digests.specs.Digesting.{modulus, digest_of};
+ghost use Rattle.std.specs.Prelude.{◌≡◌, ◌<◌, ℕ};
+ghost use Rattle.digests.specs.Digesting.{modulus, next, digest_of};
 
 const MODULUS: u64 = 4294967291;
 
-fn reduced(word: u64) -> u64
-    ensures { result ≡ word % modulus }
-{
-    if word < MODULUS { word } else { word % MODULUS }
+// What is digested element by element: a byte or a word, by its number.
+pub trait Element: Copy {
+    ghost value: { Self → ℕ };
+
+    fn number(self) -> u64
+        ensures { result ≡ value self };
 }
 
-// The digest of the bytes, from the first to the last.
-pub fn digest(bytes: &[u8]) -> u64
-    ensures { result ≡ digest_of bytes.now }
-{
-    let mut h = 0u64;
-    let mut i = 0;
-    while i < bytes.len() {
-        h = (h * 31 + bytes[i] as u64 + 1) % MODULUS;
-        i += 1;
+impl Element for u8 {
+    ghost value = { λ byte. byte };
+
+    fn number(self) -> u64 {
+        u64::from(self)
     }
-    h
 }
 
-// The digest of the words, from the first to the last.
-pub fn digest_words(words: &[u64]) -> u64
-    ensures { result ≡ digest_of words.now }
+impl Element for u64 {
+    ghost value = { λ word. word };
+
+    fn number(self) -> u64 {
+        self
+    }
+}
+
+// What a digest becomes for an element.
+fn digested(h: u64, number: u64) -> u64
+    requires { h < modulus }
+    ensures { result ≡ next h number }
 {
-    let mut h = 0u64;
-    let mut i = 0;
-    while i < words.len() {
-        h = (h * 31 + reduced(words[i]) + 1) % MODULUS;
-        i += 1;
+    (h * 31 + number % MODULUS + 1) % MODULUS
+}
+
+// The digest of the elements, from the first to the last.
+pub fn digest<T: Element>(elements: &[T]) -> u64
+    ensures { result ≡ digest_of T.value elements.now }
+{
+    let mut h = 0;
+    for element in elements {
+        h = digested(h, element.number());
     }
     h
 }

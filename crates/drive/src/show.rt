@@ -2,7 +2,7 @@
 use super::held::{SECOND, THIRD, within};
 use super::telling::Told;
 use digest_lines::Digests;
-use digests::{digest, digest_words};
+use digests::digest;
 use holdings::{HELD_AREA, HELD_MARKS};
 
 pub(crate) fn show(
@@ -18,11 +18,11 @@ pub(crate) fn show(
         candidate: digest(within(right, 0, HELD_AREA)),
         recovery: digest(within(left, SECOND, HELD_AREA)),
         exchange: digest(within(right, SECOND, HELD_AREA)),
-        table: digest_words(table),
-        log: digest_words(log),
+        table: digest(table),
+        log: digest(log),
         groups: digest(within(left, THIRD, HELD_MARKS)),
         status: digest(within(right, THIRD, HELD_MARKS)),
         used: used as u64,
-        tails: digest_words(tails),
+        tails: digest(tails),
     })
 }

@@ -19,7 +19,7 @@ pub const HELD_MARKS: usize = 300;
 
 pub const HELD_TAILS: usize = 800;
 
-#[derive(Clone, Copy)]
+#[derive(Clone, Copy, PartialEq, Eq)]
 pub enum Area {
     Accepted,
     Candidate,
@@ -55,14 +55,10 @@ impl Area {
         ensures { result ≡ held_of self }
     {
         match self {
-            Area::Accepted => HELD_AREA,
-            Area::Candidate => HELD_AREA,
-            Area::Recovery => HELD_AREA,
-            Area::Exchange => HELD_AREA,
+            Area::Accepted | Area::Candidate | Area::Recovery | Area::Exchange => HELD_AREA,
             Area::Table => HELD_TABLE,
             Area::Log => HELD_LOG,
-            Area::Groups => HELD_MARKS,
-            Area::Status => HELD_MARKS,
+            Area::Groups | Area::Status => HELD_MARKS,
             Area::Tails => HELD_TAILS,
         }
     }
@@ -72,15 +68,8 @@ impl Area {
         ensures { result ≡ most_of self }
     {
         match self {
-            Area::Accepted => TOP8,
-            Area::Candidate => TOP8,
-            Area::Recovery => TOP8,
-            Area::Exchange => TOP8,
-            Area::Table => u64::MAX,
-            Area::Log => u64::MAX,
-            Area::Groups => TOP8,
-            Area::Status => TOP8,
-            Area::Tails => u64::MAX,
+            Area::Table | Area::Log | Area::Tails => u64::MAX,
+            _ => TOP8,
         }
     }
 }

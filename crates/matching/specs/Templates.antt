@@ -1,6 +1,7 @@
 -- Whether a line fits a template, and the numbers that it has: what the driver's page says of words, numbers and their ranges.
 -- Assumes nothing.
-use Rattle.std.specs.Prelude.{ℕ, suc, ◌+◌, Bool, false, List, [], ◌∷◌, eqb, ltb, leb, length, get_or, drop, set, replicate}
+use Rattle.std.specs.Prelude.{ℕ, suc, ◌+◌, List, [], ◌∷◌, Option, Some, None, option_and_then, eqb, ltb, leb, length, get_or, set, replicate}
+use Rattle.std.specs.Bool.{then_some}
 use Prim.Native.Char.{code}
 use Rattle.choice.specs.Pick.{pick, ◌and◌}
 use Rattle.tickets.specs.Live.{rollback}
@@ -8,12 +9,10 @@ use Rattle.rows.specs.Rows.{top8, top32, fields}
 use Rattle.numbers.specs.Reading.{number_at}
 use Rattle.text.specs.Writing.{newline_byte}
 use Rattle.numbers.specs.declared.Read.{Read}
-use Rattle.numbers.specs.declared.Read.TheVariants.{Number as ReadNumber, Wrong as ReadWrong}
 use Rattle.holdings.specs.Held.{held_of}
 use Rattle.holdings.specs.declared.Area.TheVariants.{Accepted, Table}
 use Rattle.matching.specs.declared.Taken.{Taken}
-use Rattle.matching.specs.declared.Taken.TheVariants.{Number, Same, Wrong}
-use Rattle.matching.specs.declared.Fitted.{Fitted}
+use Rattle.matching.specs.declared.Numbers.{Numbers}
 
 -- the largest number where a template has this capital: "LENGTH at most 5,000 and SEED at most 1,000,000", "COUNT at most 2,200",
 -- "an outcome over 2 and a flag over 1 are numbers past their range"; a kind of ticket is at most that of a rollback
@@ -38,40 +37,30 @@ unfoldable pub place_in : List ℕ → ℕ → ℕ
 place_in [] byte = 0
 place_in (x ∷ rest) byte = pick (eqb byte x) 0 (suc (place_in rest byte))
 
--- the letter of an area is its place among them
-unfoldable pub letter_of : ℕ → ℕ → Taken
-letter_of byte next = pick (ltb (place_in letters byte) (length letters)) (Number (place_in letters byte) next) Wrong
+abbrev pub a_number : ℕ → ℕ → Option Taken
+a_number value next = Some (record { number = Some value; next = next })
 
-abbrev pub taken_of : Read → Taken
-taken_of (ReadNumber value next) = Number value next
-taken_of ReadWrong = Wrong
+-- the letter of an area is its place among them
+unfoldable pub letter_of : ℕ → ℕ → Option Taken
+letter_of byte next = pick (ltb (place_in letters byte) (length letters)) (a_number (place_in letters byte) next) None
+
+abbrev pub taken_of : Option Read → Option Taken
+taken_of (Some read) = a_number read.value read.next
+taken_of None = None
 
 -- any other byte stands for itself
-unfoldable pub same_as : ℕ → ℕ → ℕ → Taken
-same_as byte mark next = pick (eqb byte mark) (Same next) Wrong
+abbrev pub same_as : ℕ → ℕ → ℕ → Option Taken
+same_as byte mark next = then_some (eqb byte mark) (record { number = None; next = next })
 
 -- what the line has at a place for a byte of the template
-unfoldable pub taken_at : List ℕ → ℕ → ℕ → Taken
+unfoldable pub taken_at : List ℕ → ℕ → ℕ → Option Taken
 taken_at line at mark =
-    pick (leb (length line) at) Wrong
+    pick (leb (length line) at) None
     (pick (eqb mark (code "B")) (letter_of (get_or line at 0) (at + 1))
     (pick (leb (code "A") mark and leb mark (code "Z")) (taken_of (number_at line at (most_at mark)))
     (same_as (get_or line at 0) mark (at + 1))))
 
-abbrev pub fitted : Bool → List ℕ → Fitted
-fitted fits row = record { fits = fits; numbers = row }
-
--- what follows of what was taken
-abbrev pub by_taken : Taken → Fitted → (ℕ → Fitted) → (ℕ → ℕ → Fitted) → Fitted
-by_taken Wrong wrong same number = wrong
-by_taken (Same next) wrong same number = same next
-by_taken (Number value next) wrong same number = number value next
-
 -- a row of numbers, and how many of them were read
-pub record Numbers : Type 0 where
-  pub row : List ℕ
-  pub count : ℕ
-
 abbrev pub so_far : List ℕ → ℕ → Numbers
 so_far row count = record { row = row; count = count }
 
@@ -79,20 +68,23 @@ so_far row count = record { row = row; count = count }
 unfoldable pub kept : Numbers → ℕ → Numbers
 kept n value = pick (ltb n.count fields) (so_far (set n.row n.count value) (n.count + 1)) n
 
--- whether the bytes of the line from a place on are as the template says that is left, up to its newline, and no byte too many; with the
+-- what was taken is put there where it is a number
+abbrev pub kept_of : Numbers → Option ℕ → Numbers
+kept_of n None = n
+kept_of n (Some value) = kept n value
+
+-- where the bytes of the line from a place on are as the template says that is left, up to its newline, and no byte too many: the
 -- numbers, one put after the other
-unfoldable pub fits_from : List ℕ → Numbers → ℕ → List ℕ → Fitted
-fits_from line n at [] = fitted false n.row
+unfoldable pub fits_from : List ℕ → Numbers → ℕ → List ℕ → Option (List ℕ)
+fits_from line n at [] = None
 fits_from line n at (mark ∷ rest) =
-    pick (eqb mark newline_byte) (fitted (eqb at (length line)) n.row)
-    (by_taken (taken_at line at mark) (fitted false n.row)
-    (λ next. fits_from line n next rest)
-    (λ value next. fits_from line (kept n value) next rest))
+    pick (eqb mark newline_byte) (then_some (eqb at (length line)) n.row)
+    (option_and_then (λ taken. fits_from line (kept_of n taken.number) taken.next rest) (taken_at line at mark))
 
 -- before the first number there are zeros
 abbrev pub blank : Numbers
 blank = so_far (replicate fields 0) 0
 
--- the whole line, by the template that starts at a place
-abbrev pub fits_at : List ℕ → List ℕ → ℕ → Fitted
-fits_at line templates from = fits_from line blank 0 (drop from templates)
+-- the whole line, by a template
+abbrev pub fits_at : List ℕ → List ℕ → Option (List ℕ)
+fits_at line template = fits_from line blank 0 template

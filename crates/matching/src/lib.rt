@@ -4,13 +4,12 @@
 // function asks anything of its caller: numbers past the most that a template has are left out.
 #![tactic(auto)]
 
-ghost use Rattle.std.specs.Prelude.{◌≡◌};
+ghost use Rattle.std.specs.Prelude.{◌≡◌, ◌==◌, position};
 ghost use Rattle.numbers.specs.Reading.{number_at};
-ghost use Rattle.matching.specs.Templates.{most_at, letters, place_in, letter_of, taken_of, same_as, taken_at};
-ghost use Rattle.matching.specs.Templates.{so_far, kept, fitted, fits_at};
+ghost use Rattle.matching.specs.Templates.{most_at, letters, letter_of, taken_of, taken_at, kept, fits_at};
 
 use holdings::{HELD_AREA, HELD_TABLE};
-use numbers::{Read, number};
+use numbers::number;
 use rows::{TOP8, TOP32};
 use tickets::Live;
 
@@ -26,34 +25,35 @@ const OUTCOME: u64 = 2;
 // The last kind of a live ticket.
 const KIND: u64 = Live::ROLLBACK as u64;
 
-// How many areas there are.
-const AREAS: u64 = 9;
-
-// Whether a line fits a template, and the numbers that were read of it, with zeros after them.
+// What the line has for one byte of the template, a number or that byte itself; and the place after it.
 #[derive(Clone, Copy)]
-pub struct Fitted {
-    pub fits: bool,
-    pub numbers: [u64; NUMBERS],
+struct Taken {
+    number: Option<u64>,
+    next: usize,
 }
 
-// What the line has for one byte of the template, and the place after it.
+// The numbers that were read so far, with zeros after them.
 #[derive(Clone, Copy)]
-enum Taken {
-    Number { value: u64, next: usize },
-    Same { next: usize },
-    Wrong,
+struct Numbers {
+    row: [u64; NUMBERS],
+    count: usize,
 }
 
-fn fitting(fits: bool, numbers: [u64; NUMBERS]) -> Fitted
-    ensures { result ≡ fitted fits numbers }
-{
-    Fitted {
-        fits: fits,
-        numbers: numbers,
+impl Numbers {
+    // The number goes to its place, if there is one.
+    #[tactic(auto, unfolding(crate::specs::Templates::kept, choice::specs::Pick::pick))]
+    fn keep(&mut self, value: u64)
+        ensures { self.new ≡ kept self.old value }
+    {
+        if self.count < NUMBERS {
+            self.row[self.count] = value;
+            self.count += 1;
+        }
     }
 }
 
 // The largest number that may stand where the template has this capital.
+#[tactic(auto, unfolding(crate::specs::Templates::most_at, choice::specs::Pick::pick))]
 fn most(mark: u8) -> u64
     ensures { result ≡ most_at mark }
 {
@@ -70,108 +70,65 @@ fn most(mark: u8) -> u64
     }
 }
 
-// The place of a byte among the letters of the areas, or their count.
-fn place(byte: u8) -> u64
-    ensures { result ≡ place_in letters byte }
+// The place of a byte among the letters of the areas.
+fn place(byte: u8) -> Option<usize>
+    ensures { result ≡ position (λ letter. byte == letter) letters }
 {
-    match byte {
-        b'a' => 0,
-        b'c' => 1,
-        b'r' => 2,
-        b'x' => 3,
-        b't' => 4,
-        b'l' => 5,
-        b'g' => 6,
-        b's' => 7,
-        b'f' => 8,
-        _ => AREAS,
-    }
+    b"acrxtlgsf".iter().position(|letter| byte == *letter)
 }
 
-fn letter(byte: u8, next: usize) -> Taken
+fn letter(byte: u8, next: usize) -> Option<Taken>
     ensures { result ≡ letter_of byte next }
 {
-    let value = place(byte);
-    if value < AREAS {
-        return Taken::Number {
-            value: value,
-            next: next,
-        };
-    }
-    Taken::Wrong
+    let place = place(byte)?;
+    Some(Taken {
+        number: Some(place as u64),
+        next,
+    })
 }
 
-fn decimal(line: &[u8], at: usize, mark: u8) -> Taken
+fn decimal(line: &[u8], at: usize, mark: u8) -> Option<Taken>
     ensures { result ≡ taken_of (number_at line.now at (most_at mark)) }
 {
-    match number(line, at, most(mark)) {
-        Read::Number { value, next } => Taken::Number {
-            value: value,
-            next: next,
-        },
-        Read::Wrong => Taken::Wrong,
-    }
+    let read = number(line, at, most(mark))?;
+    Some(Taken {
+        number: Some(read.value),
+        next: read.next,
+    })
 }
 
-fn same(byte: u8, mark: u8, next: usize) -> Taken
-    ensures { result ≡ same_as byte mark next }
-{
-    if byte == mark {
-        return Taken::Same { next: next };
-    }
-    Taken::Wrong
-}
-
-fn take(line: &[u8], at: usize, mark: u8) -> Taken
+fn take(line: &[u8], at: usize, mark: u8) -> Option<Taken>
     ensures { result ≡ taken_at line.now at mark }
 {
-    if line.len() <= at {
-        return Taken::Wrong;
-    }
-    let byte = line[at];
+    let byte = *line.get(at)?;
+    let next = at + 1;
     if mark == b'B' {
-        return letter(byte, at + 1);
+        return letter(byte, next);
     }
-    if (b'A' <= mark) & (mark <= b'Z') {
+    if mark.is_ascii_uppercase() {
         return decimal(line, at, mark);
     }
-    same(byte, mark, at + 1)
+    (byte == mark).then_some(Taken { number: None, next })
 }
 
-// The number goes to its place, and the place after that is answered.
-fn keep(numbers: &mut [u64; NUMBERS], count: usize, value: u64) -> usize
-    ensures { so_far numbers.new result ≡ kept (so_far numbers.old count) value }
+// The numbers of a line that is as the template says, up to a newline and with no byte too many; in order, with zeros after them.
+pub fn fits(line: &[u8], template: &[u8]) -> Option<[u64; NUMBERS]>
+    ensures { result ≡ fits_at line.now template.now }
 {
-    if count < NUMBERS {
-        numbers[count] = value;
-        count + 1
-    } else {
-        count
-    }
-}
-
-// Whether the whole line is as the template that starts at a place says, up to a newline; and its numbers, in order.
-pub fn fits(line: &[u8], templates: &[u8], from: usize) -> Fitted
-    ensures { result ≡ fits_at line.now templates.now from }
-{
-    let mut numbers = [0u64; NUMBERS];
+    let mut numbers = Numbers {
+        row: [0; NUMBERS],
+        count: 0,
+    };
     let mut at = 0;
-    let mut count = 0;
-    let mut i = from;
-    while i < templates.len() {
-        let mark = templates[i];
-        if mark == b'\n' {
-            return fitting(at == line.len(), numbers);
+    for mark in template {
+        if *mark == b'\n' {
+            return (at == line.len()).then_some(numbers.row);
         }
-        match take(line, at, mark) {
-            Taken::Wrong => return fitting(false, numbers),
-            Taken::Same { next } => at = next,
-            Taken::Number { value, next } => {
-                count = keep(&mut numbers, count, value);
-                at = next;
-            }
+        let taken = take(line, at, *mark)?;
+        if let Some(value) = taken.number {
+            numbers.keep(value);
         }
-        i += 1;
+        at = taken.next;
     }
-    fitting(false, numbers)
+    None
 }

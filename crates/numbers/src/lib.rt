@@ -3,74 +3,37 @@
 #![tactic(auto)]
 
 ghost use Rattle.std.specs.Prelude.{◌≡◌};
-ghost use Rattle.numbers.specs.Reading.{is_digit, grown, ended, number_at};
+ghost use Rattle.numbers.specs.Reading.{grown, number_at};
 
-// The number that stands at a place, with the place after it; or that none does that is in its range.
-#[derive(Clone, Copy)]
-pub enum Read {
-    Number { value: u64, next: usize },
-    Wrong,
+// A number that stands at a place, with the place after it.
+#[derive(Clone, Copy, PartialEq, Eq)]
+pub struct Read {
+    pub value: u64,
+    pub next: usize,
 }
 
-// A number with one digit more, or that it is past its range.
-#[derive(Clone, Copy)]
-enum Grown {
-    To(u64),
-    Past,
-}
-
-fn is_digit(byte: u8) -> bool
-    ensures { result ≡ is_digit byte }
-{
-    (b'0' <= byte) & (byte <= b'9')
-}
-
-// The value with the digit at its end, or that this is past `most`; tested so that nothing wraps.
-fn with_digit(value: u64, digit: u64, most: u64) -> Grown
+// The value with the digit at its end, unless this is past `most`; a number past a u64 is past it too.
+fn with_digit(value: u64, digit: u64, most: u64) -> Option<u64>
     ensures { result ≡ grown value digit most }
 {
-    if u64::MAX / 10 < value {
-        return Grown::Past;
-    }
-    let tens = value * 10;
-    if u64::MAX - digit < tens {
-        return Grown::Past;
-    }
-    if most < tens + digit {
-        return Grown::Past;
-    }
-    Grown::To(tens + digit)
+    let more = value.checked_mul(10)?.checked_add(digit)?;
+    (more <= most).then_some(more)
 }
 
-// What the digits that were read are worth, where there was one.
-fn ended(seen: bool, value: u64, next: usize) -> Read
-    ensures { result ≡ ended seen value next }
-{
-    if seen {
-        return Read::Number {
-            value: value,
-            next: next,
-        };
-    }
-    Read::Wrong
-}
-
-// The number that starts at a place, of at most `most`.
-pub fn number(line: &[u8], from: usize, most: u64) -> Read
+// The number that starts at a place, of at most `most`; none where no digit stands there, or a number past it.
+pub fn number(line: &[u8], from: usize, most: u64) -> Option<Read>
     ensures { result ≡ number_at line.now from most }
 {
-    let mut value = 0u64;
-    let mut i = from;
-    while i < line.len() {
+    let mut value = 0;
+    for i in from..line.len() {
         let byte = line[i];
-        if !is_digit(byte) {
-            return ended(from < i, value, i);
+        if !byte.is_ascii_digit() {
+            return (from < i).then_some(Read { value, next: i });
         }
-        let Grown::To(more) = with_digit(value, (byte - b'0') as u64, most) else {
-            return Read::Wrong;
-        };
-        value = more;
-        i += 1;
+        value = with_digit(value, u64::from(byte - b'0'), most)?;
     }
-    ended(from < i, value, i)
+    (from < line.len()).then_some(Read {
+        value,
+        next: line.len(),
+    })
 }

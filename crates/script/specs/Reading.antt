@@ -1,5 +1,6 @@
 -- The templates of the commands, and what the driver's page says of a line before a command is looked for in it. Assumes nothing.
 use Rattle.std.specs.Prelude.{ℕ, List, [], ◌∷◌, ◌++◌, eqb, ltb, length, get_or}
+use Rattle.std.specs.Option.{is_some}
 use Prim.Native.Char.{code}
 use Prim.Native.String.{String}
 use Rattle.choice.specs.Pick.{pick}
@@ -57,4 +58,4 @@ read_as line found =
     pick (eqb (length line) 0) Nothing
     (pick (eqb (get_or line 0 0) (code "#")) Nothing
     (pick (ltb 1000 (length line)) Bad
-    (pick (first_fitting line templates).found found Bad)))
+    (pick (is_some (first_fitting line templates)) found Bad)))

@@ -11,11 +11,12 @@ use templates::first_fitting;
 // The most bytes that a line may have, without its newline.
 pub const LONGEST: usize = 1000;
 
+#[tactic(auto, unfolding(crate::specs::Reading::read_as, choice::specs::Pick::pick))]
 // The command of a line. An empty line and a comment say nothing, however long.
 pub fn read(line: &[u8]) -> Command
     ensures { result ≡ read_as line.now result }
 {
-    if line.len() == 0 {
+    if line.is_empty() {
         return Command::Nothing;
     }
     if line[0] == b'#' {
@@ -24,9 +25,14 @@ pub fn read(line: &[u8]) -> Command
     if LONGEST < line.len() {
         return Command::Bad;
     }
-    let found = first_fitting(
-        line,
-        b".show
+    match first_fitting(line, TEMPLATES) {
+        Some(found) => of_key(found.key, found.numbers),
+        None => Command::Bad,
+    }
+}
+
+// The commands, each after its key.
+const TEMPLATES: &[u8] = b".show
 llend B N
 pput B N N
 ffill L:S
@@ -57,11 +63,4 @@ Ffind-tail N N N N N N N
 Mmove-tail N N N N N N N
 Gfind-struct N N N N N N N
 Nmove-struct N N N N N N N
-",
-    );
-    if !found.found {
-        return Command::Bad;
-    }
-    let numbers = found.numbers;
-    of_key(found.key, numbers)
-}
+";

@@ -2,54 +2,48 @@
 // a newline. No function asks anything of its caller.
 #![tactic(auto)]
 
-ghost use Rattle.std.specs.Prelude.{◌≡◌, ◌≤◌, drop};
+ghost use Rattle.std.specs.Prelude.{◌≡◌, ◌==◌, ◌≤◌, length, position};
+ghost use Rattle.text.specs.Writing.{newline_byte};
 ghost use Rattle.templates.specs.Finding.{after_line, first_fitting};
 
 pub use matching::NUMBERS;
 use matching::fits;
 
-// Whether a line fits a template; then the key of the first, and the numbers that were read of it, with zeros after them.
+// The key of the first template that a line fits, and the numbers that were read of it, with zeros after them.
 #[derive(Clone, Copy)]
 pub struct Found {
-    pub found: bool,
     pub key: u8,
     pub numbers: [u64; NUMBERS],
 }
 
-// The place after the next newline.
-fn next_template(templates: &[u8], from: usize) -> usize
-    ensures { (from ≤ result) × (drop result templates.now ≡ after_line (drop from templates.now)) }
+// The place of the first newline.
+fn newline(templates: &[u8]) -> Option<usize>
+    ensures { result ≡ position (λ byte. byte == newline_byte) templates.now }
 {
-    let mut i = from;
-    while i < templates.len() {
-        if templates[i] == b'\n' {
-            return i + 1;
-        }
-        i += 1;
+    templates.iter().position(|byte| *byte == b'\n')
+}
+
+// What is left after the next newline.
+fn next_template(templates: &[u8]) -> &[u8]
+    ensures value { result.now ≡ after_line templates.now }
+    ensures no_longer { length result.now ≤ length templates.now }
+{
+    match newline(templates) {
+        Some(end) => &templates[end + 1..],
+        None => &[],
     }
-    i
 }
 
 // The first template that the line fits.
-pub fn first_fitting(line: &[u8], templates: &[u8]) -> Found
+pub fn first_fitting(line: &[u8], templates: &[u8]) -> Option<Found>
     ensures { result ≡ first_fitting line.now templates.now }
 {
-    let mut at = 0;
-    while at < templates.len() {
-        let fitted = fits(line, templates, at + 1);
-        if fitted.fits {
-            let numbers = fitted.numbers;
-            return Found {
-                found: true,
-                key: templates[at],
-                numbers: numbers,
-            };
+    let mut rest = templates;
+    while let Some((key, template)) = rest.split_first() {
+        if let Some(numbers) = fits(line, template) {
+            return Some(Found { key: *key, numbers });
         }
-        at = next_template(templates, at + 1);
+        rest = next_template(template);
     }
-    Found {
-        found: false,
-        key: 0,
-        numbers: [0; NUMBERS],
-    }
+    None
 }

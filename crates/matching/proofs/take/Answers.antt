@@ -1,27 +1,23 @@
 -- `matching::take` meets its contract. Assumes nothing.
-use mathlib.Core.Path.{refl}
-use borrow.Author.Tests.{le-leb, lt-leb, eq-eqb, ne_eqb}
-use Rattle.choice.specs.Pick.{◌and◌}
-use Rattle.choice.proofs.Picks.{yes, no}
-use Rattle.matching.specs.Templates.{taken_at}
+use Rattle.std.proofs.Common.{◌∙◌}
+use Rattle.matching.proofs.Turns.{take_end, take_letter, take-number, take-same}
 use Rattle.matching.proofs.take.Goals as goal
 
-pub returns-then-line-at : goal.returns-then-line-at
-unfolding taken_at
-returns-then-line-at c = yes _ (le-leb _ _ c.if-line-at.true) refl
+pub returns-in_err-byte : goal.returns-in_err-byte
+returns-in_err-byte c = c.from_residual.ensures ∙ take_end _ _ _ c.in_err-byte.ensures.lookup.3
 
 pub returns-then-mark-eq66 : goal.returns-then-mark-eq66
-unfolding taken_at
-returns-then-mark-eq66 c = no _ (lt-leb _ _ c.if-line-at.false) (yes _ (eq-eqb _ _ c.if-mark-eq66.true) c.letter.ensures)
+returns-then-mark-eq66 c =
+    let there = c.in_ok-byte.ensures.lookup.3 in
+    c.letter.ensures ∙ rw (there.1 0) (take_letter _ _ _ there.0 c.if-mark-eq66.true)
 
-pub returns-then-mark : goal.returns-then-mark
-unfolding taken_at ◌and◌
-returns-then-mark c =
-    let b = c in
-    no _ (lt-leb _ _ b.if-line-at.false) (no _ (ne_eqb _ _ b.if-mark-eq66.false) (yes _ c.if-mark.true c.decimal.ensures))
+pub returns-then-is_ascii_uppercase : goal.returns-then-is_ascii_uppercase
+returns-then-is_ascii_uppercase c =
+    c.decimal.ensures
+    ∙ take-number _ _ _ c.in_ok-byte.ensures.lookup.3.0 c.if-mark-eq66.false c.is_ascii_uppercase.ensures.value c.if-is_ascii_uppercase.true
 
 pub returns : goal.returns
-unfolding taken_at ◌and◌
 returns c =
-    let b = c in
-    no _ (lt-leb _ _ b.if-line-at.false) (no _ (ne_eqb _ _ b.if-mark-eq66.false) (no _ c.if-mark.false c.same.ensures))
+    let there = c.in_ok-byte.ensures.lookup.3 in
+    c.then_some.ensures
+    ∙ rw (there.1 0) (take-same _ _ _ there.0 c.if-mark-eq66.false c.is_ascii_uppercase.ensures.value c.if-is_ascii_uppercase.false)

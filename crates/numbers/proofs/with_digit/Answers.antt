@@ -1,17 +1,16 @@
--- `numbers::with_digit` meets its contract: its three tests say whether the greater number is in the range. Assumes nothing.
-use native.Mathlib.Omega.{arith}
-use borrow.Author.Rules.{rules}
-use Rattle.numbers.proofs.Turns.{is_to, is_past}
+-- `numbers::with_digit` meets its contract: what wraps is past the most. Assumes nothing.
+use Rattle.std.proofs.Common.{◌∙◌, arith}
+use Rattle.numbers.specs.Reading.{grown}
+use Rattle.numbers.proofs.Turns.{is_past}
 use Rattle.numbers.proofs.with_digit.Goals as goal
 
-pub returns-then-value : goal.returns-then-value
-returns-then-value c = is_past _ _ _ (omega arith)
+pub returns-in_err-checked_mul : goal.returns-in_err-checked_mul
+returns-in_err-checked_mul c = c.from_residual.ensures ∙ is_past _ _ _ (omega (arith, c.in_err-checked_mul.ensures))
 
-pub returns-then-digit-tens : goal.returns-then-digit-tens
-returns-then-digit-tens c = is_past _ _ _ (omega arith)
-
-pub returns-then-most-tens : goal.returns-then-most-tens
-returns-then-most-tens c = is_past _ _ _ (omega arith)
+pub returns-in_err-more : goal.returns-in_err-more
+returns-in_err-more c =
+    c.from_residual-in_err-more.ensures ∙ is_past _ _ _ (omega (arith, c.in_ok-checked_mul.ensures, c.in_err-more.ensures))
 
 pub returns : goal.returns
-returns c = is_to _ _ _ (omega arith)
+unfolding grown
+returns c = c.then_some.ensures ∙ rw (c.in_ok-more.ensures.1, c.in_ok-checked_mul.ensures.1)
