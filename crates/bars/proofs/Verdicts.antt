@@ -7,6 +7,7 @@ use native.Mathlib.Omega.{arith}
 use Rattle.std.specs.Prelude.{Result, Ok, Err}
 use Rattle.choice.specs.Pick.{pick}
 use Rattle.bars.specs.Bars.{Bar, verdict}
+use Rattle.bars.proofs.Passing.{Clear}
 
 module _ {E : Type 0} where
   -- a row's word, and behind it another's, where the first lets a call through
@@ -30,11 +31,6 @@ module _ {E : Type 0} where
   pub let_by : {r z : Result (Unit {0}) E} (bs cs : List (Bar E)) → r ≡ verdict bs → r ≡ Ok tt → z ≡ verdict cs → z ≡ verdict (bs ++ cs)
   let_by bs cs e h p = p ∙ ap (λ (x : Result (Unit {0}) E). in_turn x (verdict cs)) (sym h ∙ e) ∙ sym (row_more bs cs)
 
-  -- where a row lets a call through, no test holds
-  abbrev pub Clear : List (Bar E) → Type 0
-  Clear [] = true ≡ true
-  Clear (b ∷ bs) = (b.test ≡ false) × Clear bs
-
   refusals : Result (Unit {0}) E → ℕ
   refusals (Ok u) = 0
   refusals (Err why) = 1
@@ -44,6 +40,7 @@ module _ {E : Type 0} where
   unbarred true why v h = let z = ap refusals h in absurd (omega (arith, z))
   unbarred false why v h = (refl, h)
 
+  -- where a row lets a call through, no test holds
   pub clear : (bs : List (Bar E)) → verdict bs ≡ Ok tt → Clear bs
   clear [] h = refl
   clear (b ∷ bs) h = let u = unbarred b.test _ _ h in (u.0, clear bs u.1)
