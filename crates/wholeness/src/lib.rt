@@ -36,43 +36,47 @@ fn staged_fits(r: Record) -> bool
 fn forward_fits(r: Record) -> bool
     ensures { result ≡ forward_fits r.phase.number r.forward }
 {
-    let p = r.phase.number;
     let f = r.forward;
-    ((p <= Phase::REMOVE) & (f == 0))
-        | ((p == Phase::SETTLE_REMOVED) & (f == 1))
-        | ((p == Phase::MOUNT) & (f == 2))
-        | ((p == Phase::SETTLE_MOUNTED) & (f == 3))
-        | ((p == Phase::UPDATES) & (f == 4))
-        | ((p == Phase::ADOPT) & (f == 4))
-        | ((p == Phase::READY) & (f == 5))
-        | ((p == Phase::UNDO) & ((f == 4) | (f == 5)))
-        | ((Phase::RECOVER_REMOVE <= p) & (f <= 5))
+    match r.phase.number {
+        Phase::NONE | Phase::REMOVE => f == 0,
+        Phase::SETTLE_REMOVED => f == 1,
+        Phase::MOUNT => f == 2,
+        Phase::SETTLE_MOUNTED => f == 3,
+        Phase::UPDATES | Phase::ADOPT => f == 4,
+        Phase::READY => f == 5,
+        Phase::UNDO => (f == 4) | (f == 5),
+        _ => f <= 5,
+    }
 }
 
 fn back_fits(r: Record) -> bool
     ensures { result ≡ back_fits r.phase.number r.back }
 {
-    let p = r.phase.number;
     let b = r.back;
-    ((p <= Phase::RECOVER_REMOVE) & (b == 0))
-        | ((p == Phase::RECOVER_SETTLE_REMOVED) & (b == 1))
-        | ((p == Phase::RECOVER_MOUNT) & (b == 2))
-        | ((p == Phase::RECOVER_SETTLE_MOUNTED) & (b == 3))
-        | ((p == Phase::RECOVERED) & (b == 4))
+    match r.phase.number {
+        Phase::NONE..=Phase::RECOVER_REMOVE => b == 0,
+        Phase::RECOVER_SETTLE_REMOVED => b == 1,
+        Phase::RECOVER_MOUNT => b == 2,
+        Phase::RECOVER_SETTLE_MOUNTED => b == 3,
+        Phase::RECOVERED => b == 4,
+        _ => false,
+    }
 }
 
 fn restoring_fits(r: Record) -> bool
     ensures { result ≡ restoring_fits r.restoring r.phase.number r.entries r.applied r.attempted }
 {
-    let p = r.phase.number;
-    (!r.restoring | (r.attempted == r.entries))
-        & (!((Phase::REMOVE <= p) & (p <= Phase::READY)) | !r.restoring)
-        & (!((Phase::REMOVE <= p) & (p <= Phase::SETTLE_MOUNTED)) | (r.attempted == 0))
-        & (!(p == Phase::UPDATES) | ((r.applied < r.entries) | (r.entries == 0)))
-        & (!((p == Phase::ADOPT) | (p == Phase::READY)) | (r.applied == r.entries))
-        & (!(Phase::UNDO <= p) | r.restoring)
-        & (!(p == Phase::UNDO) | (0 < r.entries))
-        & (!(Phase::RECOVER_REMOVE <= p) | (r.entries == 0))
+    let attempted = !r.restoring | (r.attempted == r.entries);
+    match r.phase.number {
+        Phase::NONE => attempted,
+        Phase::REMOVE..=Phase::SETTLE_MOUNTED => attempted & !r.restoring & (r.attempted == 0),
+        Phase::UPDATES => {
+            attempted & !r.restoring & ((r.applied < r.entries) | (r.entries == 0))
+        }
+        Phase::ADOPT | Phase::READY => attempted & !r.restoring & (r.applied == r.entries),
+        Phase::UNDO => attempted & r.restoring & (0 < r.entries),
+        _ => attempted & r.restoring & (r.entries == 0),
+    }
 }
 
 // Whether a count is one past another.
