@@ -4,7 +4,7 @@ use std::io::Read;
 use text::{front, put_byte};
 
 // Where the reading stands: the place in the chunk, how many bytes of the chunk were read, how many bytes the present line has, and
-// whether the input is at its end.
+// whether the input is at its end. A flag, no `Option`: the last line may end with the input, and then nothing is read again.
 #[derive(Clone, Copy)]
 pub struct Place {
     pub at: usize,
@@ -23,10 +23,10 @@ struct Taken {
 
 fn standing(at: usize, filled: usize, length: usize, ended: bool) -> Place {
     Place {
-        at: at,
-        filled: filled,
-        length: length,
-        ended: ended,
+        at,
+        filled,
+        length,
+        ended,
     }
 }
 
@@ -35,14 +35,10 @@ pub fn start() -> Place {
 }
 
 fn taking(at: usize, length: usize, whole: bool) -> Taken {
-    Taken {
-        at: at,
-        length: length,
-        whole: whole,
-    }
+    Taken { at, length, whole }
 }
 
-// Takes bytes up to a newline or the end of what was read.
+// Takes bytes up to a newline or the end of what was read. An index, no iterator: the answer is the place where it stops.
 fn take(read: &[u8], from: usize, line: &mut [u8], so_far: usize) -> Taken {
     let mut count = so_far;
     for i in from..read.len() {
