@@ -37,9 +37,9 @@ fn claim(revision: u64, replacements: u64, stamped: u64, counted: u64) -> Claim
     ensures { result ≡ claim_at revision replacements stamped counted }
 {
     let opening = Opening {
-        revision: revision,
+        revision,
         serial: 0,
-        replacements: replacements,
+        replacements,
     };
     Claim {
         record: opening.opened(0),
@@ -68,8 +68,8 @@ pub extern "C" fn edge_find_tail(
     ensures { result ≡ offset_or (find_of words.now used (file_at device inode) size (claim_at revision replacements stamped counted)) }
 {
     let file = File {
-        device: device,
-        inode: inode,
+        device,
+        inode,
     };
     let by = claim(revision, replacements, stamped, counted);
     match tails::find(words, used, file, size, by) {
@@ -96,9 +96,9 @@ pub extern "C" fn edge_move_tail(
     ensures { result ∷ words.new ≡ (says_verdict (move_of words.old used (tail_of device inode offset) (claim_at revision replacements stamped counted)).answer).number ∷ (move_of words.old used (tail_of device inode offset) (claim_at revision replacements stamped counted)).words }
 {
     let tail = Tail {
-        device: device,
-        inode: inode,
-        offset: offset,
+        device,
+        inode,
+        offset,
     };
     let by = claim(revision, replacements, stamped, counted);
     match tails::move_offset(words, used, tail, by) {
