@@ -67,10 +67,7 @@ pub extern "C" fn edge_find_tail(
 ) -> u64
     ensures { result ≡ offset_or (find_of words.now used (file_at device inode) size (claim_at revision replacements stamped counted)) }
 {
-    let file = File {
-        device,
-        inode,
-    };
+    let file = File { device, inode };
     let by = claim(revision, replacements, stamped, counted);
     match tails::find(words, used, file, size, by) {
         Finding::Same(offset) => offset,
