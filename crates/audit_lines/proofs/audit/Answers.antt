@@ -9,7 +9,7 @@ use Rattle.audit_lines.proofs.audit.Goals as goal
 pub returns-in_err-phase : goal.returns-in_err-phase
 returns-in_err-phase c =
     let gone = err_from_is_err_and c.from_residual.result c.from_residual.ensures.1 in
-    gone.1.0 ∙ ap Err gone.1.1 ∙ tells _ _ _ c.ask.ensures c.in_err-phase.was
+    gone.1 ∙ ap Err gone.2 ∙ tells _ _ _ c.ask.ensures c.in_err-phase.was
 
 pub returns : goal.returns
 returns c =
