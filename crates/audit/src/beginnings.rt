@@ -1,7 +1,7 @@
 // Auditing the words of a log, beginning after beginning, and writing what was found, by way of a buffer of which the first `written`
 // bytes wait.
 use anyhow::{Context, Result};
-use audit_lines::{Answers, Audited, audit, counted, put_answers};
+use audit_lines::{Answers, audit, counted, put_answers};
 use console::flush_before;
 use event_lines::put_ended;
 use record::Opening;
@@ -56,11 +56,9 @@ pub(crate) fn audit_all(
     let mut waiting = 0;
     for events in 0..=last {
         match audit(given, words, events) {
-            Audited::Found(answers) => {
-                waiting = put_line(output, buffer, waiting, events, answers)?;
-            }
-            Audited::Ended(ending) => return put_end(output, buffer, waiting, ending, events),
+            Ok(answers) => waiting = put_line(output, buffer, waiting, events, answers)?,
+            Err(why) => return put_end(output, buffer, waiting, Err(why), events),
         }
     }
-    put_end(output, buffer, waiting, Ending::Ran, last)
+    put_end(output, buffer, waiting, Ok(()), last)
 }

@@ -6,43 +6,46 @@ mod beginnings;
 
 use anyhow::Result;
 use beginnings::{CHUNK, audit_all, put_end};
-use log_files::{Given, Loaded, WORDS, Words};
+use input_events::Fault;
+use log_files::{Given, LoadError, WORDS};
 use printing::front;
-use replays::Ending;
 use std::io;
 use std::rt::{Env, Files};
 
-fn print_usage(rt: &impl Eprint) -> io::Result<()> {
-    rt.eprint(
-        "usage: audit FILE [REVISION [SERIAL [REPLACEMENTS [LENGTH]]]]
+const NAME: &str = "audit";
+
+const USAGE: &str = "usage: audit FILE [REVISION [SERIAL [REPLACEMENTS [LENGTH]]]]
 FILE is an input log, eight bytes a word, lowest byte first: 4 words of head, and 8 words an event.
 From an opening at the three numbers with an accepted payload of LENGTH bytes (each 0 if it is not given),
 the plain engine is asked about the first 0, 1, 2 .. events.
-",
-    )
-}
+";
 
 // Audits the log that the file holds.
 fn audit_file(rt: &(impl Env + Files + Print + Eprint), given: Given) -> Result<()> {
     let mut words = [0u64; WORDS];
     let mut buffer = [0u8; CHUNK];
     let mut output = io::writer(rt);
-    match log_files::load(rt, "audit", given, &mut words)? {
-        Loaded::Words(count) => audit_all(
+    match log_files::load(rt, NAME, given, &mut words) {
+        Ok(count) => audit_all(
             &mut output,
             given.opening,
             front(&words, count),
             &mut buffer,
         ),
-        Loaded::Refused(why) => put_end(&mut output, &mut buffer, 0, Ending::Refused(why), 0),
-        Loaded::Unreadable => Ok(print_usage(rt)?),
+        Err(LoadError::Refused(why)) => {
+            put_end(&mut output, &mut buffer, 0, Err(Fault::Refused(why)), 0)
+        }
+        Err(LoadError::Unreadable) => Ok(rt.eprint(USAGE)?),
+        Err(LoadError::Untold(why)) => Err(why.into()),
     }
 }
 
 fn main(rt: HostRuntime) -> Result<()> {
-    let takes = "it takes a file and up to four numbers";
-    match log_files::read_words(&rt, "audit", takes, log_files::BEHIND)? {
-        Words::Given(given) => audit_file(&rt, given),
-        Words::Wrong => Ok(print_usage(&rt)?),
+    match log_files::read_words(&rt, log_files::BEHIND) {
+        Ok(given) => audit_file(&rt, given),
+        Err(why) => {
+            let what = why.text("it takes a file and up to four numbers");
+            Ok(log_files::complain(&rt, NAME, what, USAGE)?)
+        }
     }
 }

@@ -5,8 +5,7 @@ use mathlib.Core.List.{List}
 use Rattle.record.specs.declared.Opening.{Opening}
 use Rattle.plain.specs.declared.Question.{Question}
 use Rattle.plain.specs.declared.Question.TheVariants.{Phase, CommitAllowed, RecoveryAllowed, DueAsking, Revision}
-use Rattle.plain.specs.declared.Finding.{Finding}
-use Rattle.plain.specs.Looking.{asked}
+use Rattle.plain.specs.Looking.{Finding, asked}
 use Rattle.audit_lines.specs.declared.Answers.{Answers}
 use Rattle.audit_lines.specs.Audits.{number_of, answers_after, audited_by, audited}
 

@@ -8,10 +8,10 @@ ghost use Rattle.plain.specs.Looking.{asked};
 ghost use Rattle.text.specs.Writing.{put_all};
 ghost use Rattle.audit_lines.specs.Audits.{number_of, audited, answers_text};
 
+use input_events::Fault;
 use lines::put_line;
-use plain::{Finding, Question};
+use plain::Question;
 use record::Opening;
-use replays::Ending;
 use text::Page;
 
 // The answers to the five questions, in their order.
@@ -22,13 +22,6 @@ pub struct Answers {
     pub recovery: u64,
     pub due: u64,
     pub revision: u64,
-}
-
-// What an audit finds of the first events: the answers, or that it ends here, and how.
-#[derive(Clone, Copy)]
-pub enum Audited {
-    Found(Answers),
-    Ended(Ending),
 }
 
 // How many events a log's head counts; none where there is no head.
@@ -45,30 +38,21 @@ pub fn counted(words: &[u64]) -> usize
 fn number_after(question: Question, given: Opening, words: &[u64], events: usize) -> u64
     ensures { result ≡ number_of (asked question given words.now events) }
 {
-    let finding = plain::ask(question, given, words, events);
-    match finding {
-        Finding::Answer(number) => number,
-        Finding::Bad(_) => 0,
-        Finding::Refused(_) => 0,
-    }
+    plain::ask(question, given, words, events).unwrap_or(0)
 }
 
 // Asks the five questions, where the first has an answer: then all have.
-pub fn audit(given: Opening, words: &[u64], events: usize) -> Audited
+pub fn audit(given: Opening, words: &[u64], events: usize) -> Result<Answers, Fault>
     ensures { result ≡ audited given words.now events }
 {
-    let finding = plain::ask(Question::Phase, given, words, events);
-    match finding {
-        Finding::Answer(number) => Audited::Found(Answers {
-            phase: number,
-            commit: number_after(Question::CommitAllowed, given, words, events),
-            recovery: number_after(Question::RecoveryAllowed, given, words, events),
-            due: number_after(Question::DueAsking, given, words, events),
-            revision: number_after(Question::Revision, given, words, events),
-        }),
-        Finding::Bad(number) => Audited::Ended(Ending::Bad(number)),
-        Finding::Refused(why) => Audited::Ended(Ending::Refused(why)),
-    }
+    let phase = plain::ask(Question::Phase, given, words, events)?;
+    Ok(Answers {
+        phase,
+        commit: number_after(Question::CommitAllowed, given, words, events),
+        recovery: number_after(Question::RecoveryAllowed, given, words, events),
+        due: number_after(Question::DueAsking, given, words, events),
+        revision: number_after(Question::Revision, given, words, events),
+    })
 }
 
 // How many events, and the answers after them.

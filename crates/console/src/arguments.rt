@@ -7,20 +7,13 @@ use text::front;
 // The most bytes that are read of an argument.
 const WORD: usize = 4096;
 
-// An argument that is to be a number: it is none, or none was given.
+// An argument that is to be a number is none.
 #[derive(Clone, Copy)]
-pub enum Argument {
-    Number(u64),
-    Wrong,
-    Missing,
-}
+pub struct NoNumber;
 
 // Whether there is an argument at a place, the program's own name at 0.
 pub fn is_given(rt: &impl Env, place: usize) -> bool {
-    match rt.arg(place, &mut []) {
-        Err(FillError::NotPresent) => false,
-        _ => true,
-    }
+    !matches!(rt.arg(place, &mut []), Err(FillError::NotPresent))
 }
 
 // Whether the one argument is `help`.
@@ -33,19 +26,19 @@ pub fn asks_for_help(rt: &impl Env) -> bool {
 }
 
 // The decimal number that a word is.
-fn number_of(word: &[u8]) -> Argument {
+fn number_of(word: &[u8]) -> Result<u64, NoNumber> {
     match numbers::number(word, 0, u64::MAX) {
-        Read::Number { value, next } if next == word.len() => Argument::Number(value),
-        _ => Argument::Wrong,
+        Read::Number { value, next } if next == word.len() => Ok(value),
+        _ => Err(NoNumber),
     }
 }
 
-// The decimal number that is the argument of a place, from 1 on.
-pub fn number_at(rt: &impl Env, place: usize) -> Argument {
+// The decimal number that is the argument of a place, from 1 on; none where there is no argument.
+pub fn number_at(rt: &impl Env, place: usize) -> Result<Option<u64>, NoNumber> {
     let mut word = [0u8; WORD];
     match rt.arg(place, &mut word) {
-        Ok(length) => number_of(front(&word, length)),
-        Err(FillError::TooLong) => Argument::Wrong,
-        Err(FillError::NotPresent) => Argument::Missing,
+        Ok(length) => Ok(Some(number_of(front(&word, length))?)),
+        Err(FillError::TooLong) => Err(NoNumber),
+        Err(FillError::NotPresent) => Ok(None),
     }
 }

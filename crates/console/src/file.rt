@@ -5,13 +5,6 @@ use std::io::{ErrorKind, Read};
 use std::rt::Files;
 use std::{fs, io};
 
-// What a file has: so many bytes, or as many as there was room for; or why it cannot be read.
-#[derive(Clone, Copy)]
-pub enum Contents {
-    Bytes(usize),
-    Unreadable(io::Error),
-}
-
 // Reads once, behind the bytes that are there, and answers how many came: none at the end, or where there is no room.
 fn read_more(file: &mut impl Read, into: &mut [u8], done: usize) -> io::Result<usize>
     ensures { IfOk result (λ more. more ≤ length into.new - done) }
@@ -22,18 +15,18 @@ fn read_more(file: &mut impl Read, into: &mut [u8], done: usize) -> io::Result<u
     file.read(&mut into[done..])
 }
 
-// The bytes of an open file go to `into`, as many as there is room for. Nothing says that a file ends, and a proved loop has to: its turns
-// are counted, up to a number that no run uses up.
-fn read_all(file: &mut impl Read, into: &mut [u8]) -> Contents {
+// The bytes of an open file go to `into`, as many as there is room for; it answers how many there are. Nothing says that a file ends, and a
+// proved loop has to: its turns are counted, up to a number that no run uses up.
+fn read_all(file: &mut impl Read, into: &mut [u8]) -> io::Result<usize> {
     let mut done = 0;
     for _ in 0..u64::MAX {
-        match read_more(file, into, done) {
-            Ok(0) => return Contents::Bytes(done),
-            Ok(more) => done += more,
-            Err(why) => return Contents::Unreadable(why),
+        let more = read_more(file, into, done)?;
+        if more == 0 {
+            break;
         }
+        done += more;
     }
-    Contents::Bytes(done)
+    Ok(done)
 }
 
 // Opens the file of a path, which has to be text.
@@ -44,10 +37,7 @@ fn open<R: Files>(rt: &R, path: &[u8]) -> io::Result<R::File> {
     }
 }
 
-// The bytes of the file of a path go to `into`, as many as there is room for.
-pub fn read_file(rt: &impl Files, path: &[u8], into: &mut [u8]) -> Contents {
-    match open(rt, path) {
-        Ok(mut file) => read_all(&mut file, into),
-        Err(why) => Contents::Unreadable(why),
-    }
+// The bytes of the file of a path go to `into`, as many as there is room for; it answers how many there are.
+pub fn read_file(rt: &impl Files, path: &[u8], into: &mut [u8]) -> io::Result<usize> {
+    read_all(&mut open(rt, path)?, into)
 }

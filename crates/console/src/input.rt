@@ -34,8 +34,10 @@ fn take(read: &[u8], from: usize, line: &mut Page) -> Option<usize> {
 
 // Whether the next line stands in the chunk whole, so that it is there without reading.
 pub fn holds_line(chunk: &[u8], place: Place) -> bool {
-    let read = front(chunk, place.filled);
-    (place.at..read.len()).any(|i| read[i] == b'\n')
+    match front(chunk, place.filled).get(place.at..) {
+        Some(rest) => rest.contains(&b'\n'),
+        None => false,
+    }
 }
 
 // Reads the chunk anew, and answers how many bytes came: none at the end of the input.

@@ -7,8 +7,8 @@ mod file;
 mod input;
 mod output;
 
-pub use arguments::{Argument, asks_for_help, is_given, number_at};
-pub use file::{Contents, read_file};
+pub use arguments::{NoNumber, asks_for_help, is_given, number_at};
+pub use file::read_file;
 pub use input::{Place, holds_line, next_line, start};
 pub use output::flush_before;
 

@@ -5,6 +5,7 @@ use mathlib.Core.Path.{◌≡◌, refl}
 use mathlib.Core.Bool.{false}
 use mathlib.Core.List.{List, [], ◌∷◌, ◌++◌}
 use lib.ListN.{replicate, drop}
+use Rattle.std.specs.Prelude.{Ok, Err}
 use native.Mathlib.Omega.{arith}
 use Rattle.record.specs.Given.{at, beginning, opening}
 use Rattle.record.specs.declared.Record.{Record}
@@ -19,7 +20,7 @@ use Rattle.calls.specs.Kinds.{kind_of}
 use Rattle.demand_chains.specs.Chains.{after}
 use Rattle.input_events.specs.Events.{event_at, misused, stray, bad}
 use Rattle.input_events.specs.Meaning.{call_by}
-use Rattle.replays.specs.declared.Ending.TheVariants.{Ran, Bad}
+use Rattle.input_events.specs.declared.Fault.TheVariants.{BadEvent}
 use Rattle.replays.specs.Replaying.{Standing, standing, refused_at, next, sizes_fit, replayed}
 use Rattle.replay_laws.specs.Recording.{event_of, event_words, input_of, all_recorded, Kept}
 use Rattle.replay_laws.specs.Entering.{numbers}
@@ -56,8 +57,8 @@ told = 0 ∷ 20 ∷ 21 ∷ 20 ∷ 22 ∷ 20 ∷ 24 ∷ 0 ∷ 77 ∷ []
 -- to the end, where the record is that after the commit; up to a bad event; and refused, with a word too few for the answers, and with a count
 -- over the room
 pub replayed_met :
-    (replays (counting 8) 0 start (replicate 9 77) 9 ≡ standing (opening (at 8 3 3) 2) 8 8 Ran told)
-    × (replays (counting 9) 0 start (replicate 9 77) 9 ≡ standing (opening (at 8 3 3) 2) 8 8 (Bad 8) told)
+    (replays (counting 8) 0 start (replicate 9 77) 9 ≡ standing (opening (at 8 3 3) 2) 8 8 (Ok tt) told)
+    × (replays (counting 9) 0 start (replicate 9 77) 9 ≡ standing (opening (at 8 3 3) 2) 8 8 (Err (BadEvent 8)) told)
     × (replays (counting 8) 0 start (replicate 8 77) 9 ≡ refused_at BadArea 0 start (replicate 8 77))
     × (replays (counting 10) 0 start (replicate 9 77) 9 ≡ refused_at Damaged 0 start (replicate 9 77))
 unfolding replays
@@ -85,7 +86,7 @@ unfolding all_recorded kind_of
 kept = record { recorded_all = refl; least = omega arith; most = omega arith; enough = omega arith; filled = refl }
 
 pub chain_met : replayed (input_of 9 calls (replicate 8 9)) 0 start (replicate 9 77) 8
-    ≡ standing (after start calls) 8 8 Ran (numbers start calls ++ drop 8 (replicate 9 77))
+    ≡ standing (after start calls) 8 8 (Ok tt) (numbers start calls ++ drop 8 (replicate 9 77))
 chain_met = replay_is_the_chain start calls [] 9 (replicate 8 9) (replicate 9 77) kept (omega arith)
 
 pub agree_met : Agree start (room_for 8) calls (input_of 9 calls (replicate 8 9)) (replicate 9 77)

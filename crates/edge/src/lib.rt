@@ -37,9 +37,9 @@ fn claim(revision: u64, replacements: u64, stamped: u64, counted: u64) -> Claim
     ensures { result ≡ claim_at revision replacements stamped counted }
 {
     let opening = Opening {
-        revision: revision,
+        revision,
         serial: 0,
-        replacements: replacements,
+        replacements,
     };
     Claim {
         record: opening.opened(0),

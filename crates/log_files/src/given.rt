@@ -3,10 +3,8 @@ ghost use Rattle.std.specs.Prelude.{◌≡◌, true};
 ghost use Rattle.record.specs.Answers.{tells};
 ghost use Rattle.step_opens.specs.Opening.{open_step};
 
-use super::telling::tell;
-use console::Argument;
+use console::NoNumber;
 use record::{Opening, Stepped};
-use std::io;
 use std::rt::Env;
 
 // An opening, and the length of its accepted payload.
@@ -16,11 +14,11 @@ pub struct Given {
     pub length: u64,
 }
 
-// What the words come to; what is wrong with them was told.
+// What is wrong with the words: there are too few or too many of them, or one is no number.
 #[derive(Clone, Copy)]
-pub enum Words {
-    Given(Given),
-    Wrong,
+pub enum WrongWords {
+    Count,
+    Number,
 }
 
 // The places of the words, the program's own name at 0.
@@ -47,60 +45,37 @@ impl Given {
     }
 }
 
-// Whether a word is there that is no number.
-fn is_wrong(rt: &impl Env, place: usize) -> bool {
-    match console::number_at(rt, place) {
-        Argument::Number(_) => false,
-        Argument::Wrong => true,
-        Argument::Missing => false,
+impl From<NoNumber> for WrongWords {
+    fn from(_why: NoNumber) -> WrongWords {
+        WrongWords::Number
     }
 }
 
-// Whether a word behind the file is no number.
-fn has_wrong(rt: &impl Env, most: usize) -> bool {
-    (REVISION..most).any(|place| is_wrong(rt, place))
+impl WrongWords {
+    // As it is told; `takes` says which words there are to be.
+    pub fn text(self, takes: &'static str) -> &'static str {
+        match self {
+            WrongWords::Count => takes,
+            WrongWords::Number => "a word after FILE is no number from 0 to 18446744073709551615",
+        }
+    }
 }
 
 // The number at a place, or another where there is none.
-pub fn number_or(rt: &impl Env, place: usize, otherwise: u64) -> u64 {
-    match console::number_at(rt, place) {
-        Argument::Number(value) => value,
-        Argument::Wrong => otherwise,
-        Argument::Missing => otherwise,
-    }
+pub fn number_or(rt: &impl Env, place: usize, otherwise: u64) -> Result<u64, WrongWords> {
+    Ok(console::number_at(rt, place)?.unwrap_or(otherwise))
 }
 
-// The opening's numbers, each 0 where it is missing.
-fn opening_words(rt: &impl Env) -> Given {
-    let opening = Opening {
-        revision: number_or(rt, REVISION, 0),
-        serial: number_or(rt, SERIAL, 0),
-        replacements: number_or(rt, REPLACEMENTS, 0),
-    };
-    Given {
-        opening: opening,
-        length: number_or(rt, LENGTH, 0),
-    }
-}
-
-// Reads the words of a program that takes up to `most`, its own name and a file among them; `takes` says so.
-pub fn read_words(
-    rt: &(impl Env + Eprint),
-    program: &str,
-    takes: &str,
-    most: usize,
-) -> io::Result<Words> {
+// Reads the file's place and the opening's numbers, each 0 where it is missing, of a program that takes words up to the place `most`.
+pub fn read_words(rt: &impl Env, most: usize) -> Result<Given, WrongWords> {
     if !console::is_given(rt, FILE) | console::is_given(rt, most) {
-        tell(rt, program, takes)?;
-        return Ok(Words::Wrong);
+        return Err(WrongWords::Count);
     }
-    if has_wrong(rt, most) {
-        tell(
-            rt,
-            program,
-            "a word after FILE is no number from 0 to 18446744073709551615",
-        )?;
-        return Ok(Words::Wrong);
-    }
-    Ok(Words::Given(opening_words(rt)))
+    let opening = Opening {
+        revision: number_or(rt, REVISION, 0)?,
+        serial: number_or(rt, SERIAL, 0)?,
+        replacements: number_or(rt, REPLACEMENTS, 0)?,
+    };
+    let length = number_or(rt, LENGTH, 0)?;
+    Ok(Given { opening, length })
 }

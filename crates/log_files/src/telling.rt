@@ -6,6 +6,12 @@ pub(crate) fn tell(rt: &impl Eprint, program: &str, what: &str) -> io::Result<()
     eprintln!(rt; "{program}: {what}")
 }
 
+// Says what is wrong with the words that a program was given, and how it is used.
+pub fn complain(rt: &impl Eprint, program: &str, what: &str, usage: &str) -> io::Result<()> {
+    tell(rt, program, what)?;
+    rt.eprint(usage)
+}
+
 // Says why the file of a path cannot be read.
 pub(crate) fn tell_unreadable(
     rt: &impl Eprint,

@@ -12,7 +12,7 @@ ghost use Rattle.plain.specs.Taking.{opened};
 ghost use Rattle.plain.specs.Looking.{looks, finding, asked};
 
 use answers::Refusal;
-use input_events::event_at;
+use input_events::{Fault, event_at};
 use record::Opening;
 
 // What can be asked. Yes is 1 and no is 0; the due asking is 1 structure, 2 update, 3 rollback, and 0 where none is due.
@@ -25,24 +25,21 @@ pub enum Question {
     Revision,
 }
 
-// What is found: the answer, or that the event of this number is bad, or that the log is refused.
-#[derive(Clone, Copy)]
-pub enum Finding {
-    Answer(u64),
-    Bad(usize),
-    Refused(Refusal),
-}
+// What is found: the answer, or why there is none.
+pub type Finding = Result<u64, Fault>;
 
 // What was taken of a list. Of the chain: its revision and count of replacements, and the number of the last ticket with the work that it
 // is open for, which is none once it is spent. Of the transaction, since the last begin that was taken: whether it runs, is structural,
 // and how many updates it has; whether its updates are closed, an asking for one being answered that there is none; whether a rollback was granted, how many
 // updates were started; and the Done reports that were taken, until a rollback was granted and since. It is public for the laws of
 // `plain_laws` to name, and no public function takes or gives one.
+// No ghost field bounds it: each event that is taken adds to a count, so the bound is that of a list's length, and the laws make any.
 #[derive(Clone, Copy)]
 pub struct Taken {
     pub revision: u64,
     pub replacements: u64,
     pub serial: u64,
+    // A number of `Live`'s, as in the record, with which the laws compare it.
     pub live: u8,
     pub running: bool,
     pub structural: bool,
@@ -59,18 +56,14 @@ fn look(question: Question, given: Opening, words: &[u64], events: usize) -> Fin
     requires { (input_sound words.now ≡ true) × (room words.now ≤ most_room) }
     ensures { result ≡ finding question (looks events words.now 0 (opened given)) }
 {
-    let count = words[0] as usize;
-    let mut at = 0;
     let mut taken = Taken::opened(given);
-    while (at < events) & (at < count) {
-        let e = event_at(words, at);
-        if e.is_bad() {
-            return Finding::Bad(at);
-        }
-        taken = taken.take(e);
-        at += 1;
+    for at in 0..(words[0] as usize).min(events) {
+        let Some(call) = event_at(words, at).call() else {
+            return Err(Fault::BadEvent(at));
+        };
+        taken = taken.take(call);
     }
-    Finding::Answer(taken.answer(question))
+    Ok(taken.answer(question))
 }
 
 // The answer to a question after the first events of an input log.
@@ -78,10 +71,10 @@ pub fn ask(question: Question, given: Opening, words: &[u64], events: usize) -> 
     ensures { result ≡ asked question given words.now events }
 {
     if !log_layout::input_sized(words.len()) {
-        return Finding::Refused(Refusal::BadArea);
+        return Err(Fault::Refused(Refusal::BadArea));
     }
     if !log_layout::input_sound(words) {
-        return Finding::Refused(Refusal::Damaged);
+        return Err(Fault::Refused(Refusal::Damaged));
     }
     look(question, given, words, events)
 }

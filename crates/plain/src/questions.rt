@@ -145,6 +145,7 @@ impl Taken {
         !self.turned & (!self.structural | ((LEAD <= self.done) & !self.is_over()))
     }
 
+    // A number of `Live`'s: the answer to a question is one.
     fn due_asking(self) -> u8
         requires { Small self }
         ensures { result ≡ due_asking self }

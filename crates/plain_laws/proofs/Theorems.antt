@@ -6,6 +6,7 @@ use mathlib.Core.List.{List}
 use native.Mathlib.Omega.{arith}
 use lib.Dec.{eqb, leb}
 use lib.ListN.{length}
+use Rattle.std.specs.Prelude.{Ok, Err}
 use borrow.Author.Tests.{leb-true, leb-false, le-leb}
 use Rattle.choice.specs.Pick.{◌and◌}
 use Rattle.choice.specs.Pick.{pick}
@@ -19,6 +20,7 @@ use Rattle.answers.specs.declared.Refusal.{Refusal}
 use Rattle.log_layout.specs.Log.{count, input_sized, input_sound, input_width, room_by}
 use Rattle.calls.specs.Calls.{Call, step}
 use Rattle.calls.specs.Calls.Call.{commit, recover_retained}
+use Rattle.input_events.specs.declared.Fault.TheVariants.{BadEvent, Refused}
 use Rattle.input_events.specs.Events.{event_at, bad}
 use Rattle.input_events.specs.Meaning.{meant}
 use Rattle.demand_steps.specs.Typed.{Typed}
@@ -26,15 +28,12 @@ use Rattle.demand_steps.specs.Knowing.{Watch, unwatched}
 use Rattle.demand_steps.specs.Watching.{watch}
 use Rattle.demand_chains.specs.Chains.{after, heard}
 use Rattle.demand_chains.proofs.Theorems.{good_opening}
-use Rattle.replays.specs.declared.Ending.{Ending}
-use Rattle.replays.specs.declared.Ending.TheVariants as Ending
-use Rattle.replays.specs.Replaying.{Standing, standing, moved, run, sizes_fit, replayed}
+use Rattle.replays.specs.Replaying.{Standing, standing, run, sizes_fit, replayed}
 use Rattle.replays.proofs.Turns as Turns
 use Rattle.replay_laws.proofs.Portions.{is_unfit, is_unsound, is_run}
 use Rattle.plain.specs.declared.Taken.{Taken}
 use Rattle.plain.specs.declared.Question.{Question}
 use Rattle.plain.specs.declared.Question.TheVariants.{Phase, CommitAllowed, RecoveryAllowed, DueAsking, Revision}
-use Rattle.plain.specs.declared.Finding.TheVariants.{Answer, Bad, Refused}
 use Rattle.plain.specs.Plain.{answer_to}
 use Rattle.plain.specs.Taking.{opened}
 use Rattle.plain.specs.Looking.{looks, finding, asked}
@@ -68,21 +67,19 @@ module _ (given : Opening) (n : ℕ) (m : Typed given) (h : n ≤ area_size) whe
 
 -- the events of a log, one after the other, as replay runs them
 module _ (q : Question) (l : List ℕ) where
-  goes_along : (n at ran : ℕ) (a : List ℕ) {t : Taken} {w : Watch} {r : Record} → Agrees t w r → finding q (looks n l at t) ≡ replay_finds q (run n l (standing r at ran Ending.Ran a))
+  goes_along : (n at ran : ℕ) (a : List ℕ) {t : Taken} {w : Watch} {r : Record} → Agrees t w r → finding q (looks n l at t) ≡ replay_finds q (run n l (standing r at ran (Ok tt) a))
   unfolding looks
-  goes_along zero at ran a x = ap Answer (answers_same x q)
+  goes_along zero at ran a x = ap Ok (answers_same x q)
   goes_along (suc n) at ran a {t} {w} {r} x =
-      let s = standing r at ran Ending.Ran a in
+      let s = standing r at ran (Ok tt) a in
       let e = event_at l at in
       test (leb (count l) at)
-      (λ b. ap (finding q) (sym (yes _ b refl)) ∙ ap Answer (answers_same x q) ∙ ap (replay_finds q) (sym (Turns.ended (suc n) l s refl (leb-true _ _ b))))
+      (λ b. ap (finding q) (sym (yes _ b refl)) ∙ ap Ok (answers_same x q) ∙ ap (replay_finds q) (sym (Turns.ended (suc n) l s refl (leb-true _ _ b))))
       (λ b. let there = leb-false (count l) at b in
       test (bad e)
-      (λ d. ap (finding q) (sym (no _ b (yes _ d refl))) ∙ ap (replay_finds q) (Turns.at_bad (suc n) l r at ran a e (omega arith) there refl d))
-      (λ d. let y = step r (meant e) in
-      let left : n ≡ suc n - 1 = omega arith in
-      ap (finding q) (sym (no _ b (no _ d refl))) ∙ goes_along n (at + 1) (ran + 1) _ (agrees_on x (meant e)) ∙ ap (λ (i : ℕ). replay_finds q (run i l (moved y s))) left
-      ∙ ap (replay_finds q) (Turns.at_event (suc n) l r at ran a e y (omega arith) there refl d refl)))
+      (λ d. ap (finding q) (sym (no _ b (yes _ d refl))) ∙ ap (replay_finds q) (Turns.at_bad (suc n) l r at ran a (omega arith) there d))
+      (λ d. ap (finding q) (sym (no _ b (no _ d refl))) ∙ goes_along n (at + 1) (ran + 1) _ (agrees_on x (meant e))
+      ∙ ap (λ (z : Standing). replay_finds q (run n l z)) (Turns.answered l r at ran a {t = step r (meant e)} there d refl refl)))
 
 -- after the first events of any input log: what is found is what a replay of them comes to, as it ends or is refused
 module _ (given : Opening) (n : ℕ) (m : Typed given) (h : n ≤ area_size) (l a : List ℕ) (k : room_by input_width (length l) ≤ length a) (events : ℕ) where
@@ -101,30 +98,30 @@ module _ (given : Opening) (n : ℕ) (m : Typed given) (h : n ≤ area_size) (l 
       (λ z. sym (yes _ (ap not z) refl) ∙ ap (replay_finds q) (sym (is_unfit l 0 r a events (no_left _ z))))
 
   -- "refused as replay refuses it"
-  pub bad_agrees : (q : Question) (number : ℕ) → now.ending ≡ Ending.Bad number → asked q given l events ≡ Bad number
+  pub bad_agrees : (q : Question) (number : ℕ) → now.ending ≡ Err (BadEvent number) → asked q given l events ≡ Err (BadEvent number)
   bad_agrees q number e = engine_agrees q ∙ ap (ended q now.state) e
 
-  pub refusal_agrees : (q : Question) (why : Refusal) → now.ending ≡ Ending.Refused why → asked q given l events ≡ Refused why
+  pub refusal_agrees : (q : Question) (why : Refusal) → now.ending ≡ Err (Refused why) → asked q given l events ≡ Err (Refused why)
   refusal_agrees q why e = engine_agrees q ∙ ap (ended q now.state) e
 
   -- and where the events are run, question by question
-  module _ (e : now.ending ≡ Ending.Ran) where
-    pub phase-agrees : asked Phase given l events ≡ Answer now.state.phase.number
+  module _ (e : now.ending ≡ Ok tt) where
+    pub phase-agrees : asked Phase given l events ≡ Ok now.state.phase.number
     unfolding says
     phase-agrees = engine_agrees Phase ∙ ap (ended Phase now.state) e
 
-    pub commit-agrees : asked CommitAllowed given l events ≡ Answer (pick (eqb (step now.state commit).number 0) 1 0)
+    pub commit-agrees : asked CommitAllowed given l events ≡ Ok (pick (eqb (step now.state commit).number 0) 1 0)
     unfolding says
     commit-agrees = engine_agrees CommitAllowed ∙ ap (ended CommitAllowed now.state) e
 
-    pub recovery-agrees : asked RecoveryAllowed given l events ≡ Answer (pick (eqb (step now.state recover_retained).number 0) 1 0)
+    pub recovery-agrees : asked RecoveryAllowed given l events ≡ Ok (pick (eqb (step now.state recover_retained).number 0) 1 0)
     unfolding says
     recovery-agrees = engine_agrees RecoveryAllowed ∙ ap (ended RecoveryAllowed now.state) e
 
-    pub asking-agrees : asked DueAsking given l events ≡ Answer (due_of now.state)
+    pub asking-agrees : asked DueAsking given l events ≡ Ok (due_of now.state)
     unfolding says
     asking-agrees = engine_agrees DueAsking ∙ ap (ended DueAsking now.state) e
 
-    pub revision-agrees : asked Revision given l events ≡ Answer now.state.revision
+    pub revision-agrees : asked Revision given l events ≡ Ok now.state.revision
     unfolding says
     revision-agrees = engine_agrees Revision ∙ ap (ended Revision now.state) e

@@ -1,5 +1,4 @@
-// What the program writes: lines of events, the last two lines, by way of a buffer of which the first `written` bytes wait; and lines on
-// standard error.
+// What the program writes: lines of events, the last two lines, by way of a buffer of which the first `written` bytes wait.
 use anyhow::{Context, Result};
 use console::flush_before;
 use event_lines::{put_ended, put_event};
@@ -16,11 +15,6 @@ pub(crate) const LAST_LINES: usize = 4096;
 
 // How many bytes are written at once.
 pub(crate) const CHUNK: usize = 65536;
-
-// A line on standard error.
-pub(crate) fn tell(rt: &impl Eprint, what: &str) -> Result<()> {
-    eprintln!(rt; "replay: {what}").context("replay: standard error")
-}
 
 // Writes out what waits where this is due, and where there may be no room for a line more.
 fn write_on(output: &mut impl Write, buffer: &[u8], written: usize, due: bool) -> Result<usize> {

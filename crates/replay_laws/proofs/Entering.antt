@@ -22,7 +22,7 @@ use Rattle.demand_chains.specs.Sending.{written}
 use Rattle.demand_logs.specs.Logged.{events}
 use Rattle.input_events.specs.declared.Event.{Event}
 use Rattle.input_events.specs.Events.{event_at}
-use Rattle.replays.specs.declared.Ending.TheVariants.{Ran}
+use Rattle.std.specs.Prelude.{Ok}
 use Rattle.replays.specs.Replaying.{Standing, standing, moved, next}
 use Rattle.replay_laws.specs.Recording.{is_recorded, Holds}
 use Rattle.replay_laws.specs.Recording.Holds.{none, more}
@@ -50,12 +50,12 @@ one_entry r c h =
     ap (λ (b : Bool). pick b (entry (kind_of c) t.number t.state.serial t.state.revision ∷ []) []) w
 
 pub same_entries : (l : List ℕ) (cs : List Call) (r : Record) (at ran : ℕ) (a : List ℕ) → Holds l at cs → at + length cs ≤ length a
-    → entries_of (length cs) l (standing r at ran Ran a) ≡ events r cs
+    → entries_of (length cs) l (standing r at ran (Ok tt) a) ≡ events r cs
 unfolding entries_of events
 same_entries l [] r at ran a none f = refl
 same_entries l (c ∷ cs) r at ran a (more h e k rest) f =
     let t = step r c in
-    let s = standing r at ran Ran a in
+    let s = standing r at ran (Ok tt) a in
     let inside : at < length a = omega (arith, f) in
     let left : at + 1 + length cs ≤ length (set a at t.number) = omega (arith, f, length-set a at t.number) in
     ap (λ (x : Standing). entry_of (event_at l at).kind (get_or x.answers at 0) x.state ++ entries_of (length cs) l x) (next_call l r at ran a c h e k)

@@ -6,6 +6,7 @@ use mathlib.Core.List.{List}
 use lib.Dec.{leb, ltb}
 use lib.ListN.{length, get_or}
 use lib.Seq.{sets}
+use Rattle.std.specs.Prelude.{Ok, Err}
 use native.Mathlib.Nat.{add-zero}
 use native.Mathlib.Omega.{arith}
 use borrow.Author.Tests.{leb-true, ltb-true, le-leb}
@@ -22,9 +23,8 @@ use Rattle.demand_chains.specs.Chains.{after, heard}
 use Rattle.calls.specs.Calls.{step}
 use Rattle.input_events.specs.Events.{event_at, bad}
 use Rattle.input_events.specs.Meaning.{meant}
-use Rattle.replays.specs.declared.Ending.{Ending}
-use Rattle.replays.specs.declared.Ending.TheVariants.{Ran, Bad, Refused}
-use Rattle.replays.specs.Replaying.{Standing, start, refused_at, goes_on, stopped, moved, next, run, sizes_fit, replayed, further}
+use Rattle.input_events.specs.declared.Fault.TheVariants.{BadEvent, Refused}
+use Rattle.replays.specs.Replaying.{Ending, Standing, start, refused_at, goes_on, stopped, moved, next, run, sizes_fit, replayed, further}
 use Rattle.replays.proofs.Turns.{held, ended, halted}
 use Rattle.replay_laws.specs.Recording.{calls_from}
 use Rattle.replay_laws.specs.Entering.{numbers}
@@ -38,14 +38,14 @@ pub record Gives (l : List ℕ) (p : ℕ) (r : Record) (a : List ℕ) (n : ℕ) 
   pub at_most : d.ran ≤ n
   pub onward : d.position ≡ p + d.ran
   -- fewer only behind the last event that the head counts, where it ended well
-  pub all_run : d.ending ≡ Ran → d.ran < n → count l ≤ d.position
+  pub all_run : d.ending ≡ Ok tt → d.ran < n → count l ≤ d.position
   -- exactly the answers of the events that ran are written
   pub same_length : length d.answers ≡ length a
   pub before : (i : ℕ) → i < p → get_or d.answers i 0 ≡ get_or a i 0
   pub behind : (i : ℕ) → p + d.ran ≤ i → get_or d.answers i 0 ≡ get_or a i 0
   -- "The first bad one is named by its number"
   pub good : (i : ℕ) → p ≤ i → i < p + d.ran → bad (event_at l i) ≡ false
-  pub named : (k : ℕ) → d.ending ≡ Bad k → (k ≡ d.position) × (k < count l) × (bad (event_at l k) ≡ true)
+  pub named : (k : ℕ) → d.ending ≡ Err (BadEvent k) → (k ≡ d.position) × (k < count l) × (bad (event_at l k) ≡ true)
   -- "Words past the count are not read": no event behind those that the head counts is run
   pub counted : 0 < d.ran → (d.position ≤ count l) × (count l ≤ most_room)
   -- "Replaying gives the record and .. every answer number": those of the calls that the events that ran mean
@@ -53,16 +53,16 @@ pub record Gives (l : List ℕ) (p : ℕ) (r : Record) (a : List ℕ) (n : ℕ) 
   pub answered : d.answers ≡ sets a p (numbers r (calls_from l p d.ran))
 
 abbrev is_bad : Ending → Bool
-is_bad Ran = false
-is_bad (Bad number) = true
-is_bad (Refused why) = false
+is_bad (Ok u) = false
+is_bad (Err (BadEvent number)) = true
+is_bad (Err (Refused why)) = false
 
 abbrev bad_at : Ending → ℕ
-bad_at Ran = 0
-bad_at (Bad number) = number
-bad_at (Refused why) = 0
+bad_at (Ok u) = 0
+bad_at (Err (BadEvent number)) = number
+bad_at (Err (Refused why)) = 0
 
-full : (n : ℕ) (l : List ℕ) (s : Standing) → s.ending ≡ Ran → (run n l s).ending ≡ Ran → (run n l s).ran < s.ran + n → count l ≤ (run n l s).position
+full : (n : ℕ) (l : List ℕ) (s : Standing) → s.ending ≡ Ok tt → (run n l s).ending ≡ Ok tt → (run n l s).ran < s.ran + n → count l ≤ (run n l s).position
 unfolding next ◌or◌
 full zero l s g e h = absurd (omega (arith, h))
 full (suc n) l s g e h =
@@ -78,7 +78,7 @@ full (suc n) l s g e h =
     never (ap goes_on (sym e ∙ ap (λ (x : Standing). x.ending) stops)))
     (λ f.
     let moves : next l s ≡ moved t s = sym (no _ (here ∙ b) (no _ f refl)) in
-    subst (λ (x : Standing). (run n l x).ending ≡ Ran → (run n l x).ran < s.ran + suc n → count l ≤ (run n l x).position) (sym moves)
+    subst (λ (x : Standing). (run n l x).ending ≡ Ok tt → (run n l x).ran < s.ran + suc n → count l ≤ (run n l x).position) (sym moves)
     (λ e h. full n l (moved t s) refl e (omega (arith, h))) e h))
 
 refused_gives : (l : List ℕ) (p : ℕ) (r : Record) (a : List ℕ) (n : ℕ) (why : Refusal) → Gives l p r a n (refused_at why p r a)
@@ -97,7 +97,7 @@ refused_gives l p r a n why = record {
   answered = refl;
 }
 
-names : (l : List ℕ) (d : Standing) → Stood l d → (k : ℕ) → d.ending ≡ Bad k → (k ≡ d.position) × (k < count l) × (bad (event_at l k) ≡ true)
+names : (l : List ℕ) (d : Standing) → Stood l d → (k : ℕ) → d.ending ≡ Err (BadEvent k) → (k ≡ d.position) × (k < count l) × (bad (event_at l k) ≡ true)
 names l d (goes f) k e = never (sym (ap is_bad (sym f ∙ e)))
 names l d (stuck f h b) k e = let at = ap bad_at (sym e ∙ f) in (at, omega (arith, at, h), ap (λ (n : ℕ). bad (event_at l n)) at ∙ b)
 

@@ -5,6 +5,7 @@ use mathlib.Core.Bool.{true, false, not}
 use mathlib.Core.List.{List}
 use lib.Dec.{leb}
 use lib.ListN.{length, set}
+use Rattle.std.specs.Prelude.{Ok, Err}
 use native.Mathlib.Nat.{add-zero}
 use native.Mathlib.Omega.{arith}
 use Rattle.choice.specs.Pick.{◌or◌}
@@ -16,9 +17,8 @@ use Rattle.log_layout.specs.Log.{count, input_sound}
 use Rattle.calls.specs.Calls.{step}
 use Rattle.input_events.specs.Events.{event_at, bad}
 use Rattle.input_events.specs.Meaning.{meant}
-use Rattle.replays.specs.declared.Ending.{Ending}
-use Rattle.replays.specs.declared.Ending.TheVariants.{Ran, Bad}
-use Rattle.replays.specs.Replaying.{Standing, standing, start, refused_at, goes_on, next, run, sizes_fit, replayed}
+use Rattle.input_events.specs.declared.Fault.TheVariants.{BadEvent}
+use Rattle.replays.specs.Replaying.{Ending, Standing, standing, start, refused_at, goes_on, next, run, sizes_fit, replayed}
 use Rattle.replays.proofs.Turns.{halted, at_bad}
 use Rattle.replay_laws.specs.Portions.{both_end, joined}
 use Rattle.replay_laws.proofs.Running.{by_turn, kept, run_length, run_adds}
@@ -43,7 +43,7 @@ module _ (l : List ℕ) where
       let one : k + s.ran + 1 ≡ k + (s.ran + 1) = omega arith in
       picked (λ (x : Standing). x ≡ later k (next l s)) (not (goes_on s.ending) or leb (count l) s.position) (λ a. ap (later k) (yes _ a refl)) (λ a.
       picked (λ (x : Standing). x ≡ later k (next l s)) (bad e) (λ b. ap (later k) (no _ a (yes _ b refl))) (λ b.
-      ap (λ (n : ℕ). standing t.state (s.position + 1) n Ran (set s.answers s.position t.number)) one
+      ap (λ (n : ℕ). standing t.state (s.position + 1) n (Ok tt) (set s.answers s.position t.number)) one
       ∙ ap (later k) (no _ a (no _ b refl))))
 
   later_run : (n k : ℕ) (s : Standing) → run n l (later k s) ≡ later k (run n l s)
@@ -52,10 +52,10 @@ module _ (l : List ℕ) where
 
   -- a portion has run what it was to run, or stands at a bad event
   pub data Stood (s : Standing) : Type 0 where
-    goes : s.ending ≡ Ran → Stood s
-    stuck : s.ending ≡ Bad s.position → s.position < count l → bad (event_at l s.position) ≡ true → Stood s
+    goes : s.ending ≡ Ok tt → Stood s
+    stuck : s.ending ≡ Err (BadEvent s.position) → s.position < count l → bad (event_at l s.position) ≡ true → Stood s
 
-  pub stood : (n : ℕ) (s : Standing) → s.ending ≡ Ran → Stood (run n l s)
+  pub stood : (n : ℕ) (s : Standing) → s.ending ≡ Ok tt → Stood (run n l s)
   stood n s e = kept Stood l (λ t p. by_turn Stood l t p (λ h b. stuck refl h b) (λ h b. goes refl)) n s (goes e)
 
   -- the portion that begins where another stands
@@ -63,12 +63,12 @@ module _ (l : List ℕ) where
   again s = start s.position s.state s.answers
 
   -- where that stands at a bad event, it stays there
-  at_once : (n : ℕ) (s : Standing) → s.ending ≡ Bad s.position → s.position < count l → bad (event_at l s.position) ≡ true
+  at_once : (n : ℕ) (s : Standing) → s.ending ≡ Err (BadEvent s.position) → s.position < count l → bad (event_at l s.position) ≡ true
       → joined s (run n l (again s)) ≡ s
-  at_once zero s e h b = alike s (add-zero s.ran) (ap (λ (x : Ending). both_end x Ran) e ∙ sym e)
+  at_once zero s e h b = alike s (add-zero s.ran) (ap (λ (x : Ending). both_end x (Ok tt)) e ∙ sym e)
   at_once (suc n) s e h b =
-      let is = at_bad (suc n) l s.state s.position 0 s.answers (event_at l s.position) (omega arith) h refl b in
-      ap (joined s) (sym is) ∙ alike s (add-zero s.ran) (ap (λ (x : Ending). both_end x (Bad s.position)) e ∙ sym e)
+      let is = at_bad (suc n) l s.state s.position 0 s.answers (omega arith) h b in
+      ap (joined s) (sym is) ∙ alike s (add-zero s.ran) (ap (λ (x : Ending). both_end x (Err (BadEvent s.position))) e ∙ sym e)
 
   goes_on_lem : (n : ℕ) (s : Standing) → Stood s → run n l s ≡ joined s (run n l (again s))
   goes_on_lem n s (goes e) =

@@ -20,7 +20,7 @@ use Rattle.demand_chains.specs.Chains.{after, heard}
 use Rattle.demand_logs.specs.Logged.{logged, events}
 use Rattle.demand_logs.proofs.LoggedChains.{same_chain}
 use Rattle.replays.specs.declared.Replayed.{Replayed}
-use Rattle.replays.specs.declared.Ending.TheVariants.{Ran}
+use Rattle.std.specs.Prelude.{Ok}
 use Rattle.replays.specs.Replaying.{Standing, standing, stands, given_back, start, sizes_fit, replayed}
 use Rattle.replay_laws.specs.Recording.{Kept, Holds, input_of}
 use Rattle.replay_laws.specs.Recording.Holds.{none, more}
@@ -63,7 +63,7 @@ module _ (room : ℕ) (cs : List Call) (rest a : List ℕ) (k : Kept room cs res
 -- calls, from any record, that of an opening too
 pub replay_is_the_chain : (r : Record) (ds es : List Call) (room : ℕ) (rest a : List ℕ) → Kept room (ds ++ es) rest → room ≤ length a
     → replayed (input_of room (ds ++ es) rest) 0 r a (length ds)
-    ≡ standing (after r ds) (length ds) (length ds) Ran (numbers r ds ++ drop (length ds) a)
+    ≡ standing (after r ds) (length ds) (length ds) (Ok tt) (numbers r ds ++ drop (length ds) a)
 replay_is_the_chain r ds es room rest a k h =
     let cs = ds ++ es in
     let l = input_of room cs rest in
@@ -73,8 +73,8 @@ replay_is_the_chain r ds es room rest a k h =
     let within : 0 + length out ≤ length a = omega (arith, e, h, k.enough, length-append ds es) in
     is_run l 0 r a n (lent room cs rest a k h) (headed room cs rest a k h)
     ∙ run_chain l ds r 0 0 a (front l ds es 0 (input_holds room cs rest k.recorded_all))
-    ∙ ap (λ (i : ℕ). standing (after r ds) i i Ran (sets a 0 out)) (zero-add n)
-    ∙ ap (standing (after r ds) n n Ran) (sets-eq out a 0 within ∙ ap (λ (i : ℕ). out ++ drop i a) (zero-add (length out) ∙ e))
+    ∙ ap (λ (i : ℕ). standing (after r ds) i i (Ok tt) (sets a 0 out)) (zero-add n)
+    ∙ ap (standing (after r ds) n n (Ok tt)) (sets-eq out a 0 within ∙ ap (λ (i : ℕ). out ++ drop i a) (zero-add (length out) ∙ e))
 
 -- a chain through the recorder that has room for its events, and a replay of its input log: the same record, the same answers, and the
 -- recorder's new entries are those of the replayed events

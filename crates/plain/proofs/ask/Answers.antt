@@ -16,22 +16,18 @@ returns-then-not-input_sized c = yes _ (told_not c.input_sized.ensures (ap not c
 pub returns-then-not-input_sound : goal.returns-then-not-input_sound
 unfolding asked
 returns-then-not-input_sound c =
-    let sized = c in
-    no _ (told_not sized.input_sized.ensures (ap not sized.if-not-input_sized.false))
+    no _ (told_not c.input_sized.ensures (ap not c.if-not-input_sized.false))
     (yes _ (told_not c.input_sound.ensures (ap not c.if-not-input_sound.true)) refl)
 
 pub look-requires : goal.look-requires
 look-requires c =
-    let sized = c in
-    let l = sized.args.words.now in
+    let l = c.args.words.now in
     let is-sound = told c.input_sound.ensures (not-false _ (ap not c.if-not-input_sound.false)) in
-    let is-sized = told sized.input_sized.ensures (not-false _ (ap not c.if-not-input_sized.false)) in
+    let is-sized = told c.input_sized.ensures (not-false _ (ap not c.if-not-input_sized.false)) in
     (is-sound, omega (arith, (input_head l is-sound).exact, (input_size (length l) is-sized).1))
 
 pub returns : goal.returns
 unfolding asked
 returns c =
-    let sound = c in
-    let sized = sound in
-    no _ (told_not sized.input_sized.ensures (ap not sound.if-not-input_sized.false))
-    (no _ (told_not sound.input_sound.ensures (ap not c.if-not-input_sound.false)) c.look.ensures)
+    no _ (told_not c.input_sized.ensures (ap not c.if-not-input_sized.false))
+    (no _ (told_not c.input_sound.ensures (ap not c.if-not-input_sound.false)) c.look.ensures)

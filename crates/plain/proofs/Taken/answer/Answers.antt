@@ -24,15 +24,3 @@ returns-in-DueAsking c = rw c.in-DueAsking.is c.due_asking.ensures
 pub returns-in-Revision : goal.returns-in-Revision
 unfolding answer_to
 returns-in-Revision c = rw c.in-Revision.is
-
-pub phase-requires : goal.phase-requires
-phase-requires c = c.requires
-
-pub commit_allowed-requires : goal.commit_allowed-requires
-commit_allowed-requires c = c.requires
-
-pub recovery_allowed-requires : goal.recovery_allowed-requires
-recovery_allowed-requires c = c.requires
-
-pub due_asking-requires : goal.due_asking-requires
-due_asking-requires c = c.requires

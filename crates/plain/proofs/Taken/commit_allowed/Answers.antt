@@ -10,6 +10,3 @@ unfolding commit_allowed ◌and◌
 returns c =
     let t = c.args.self in
     ap (λ (b : Bool). t.running and not t.turned and b) c.is_done.ensures
-
-pub is_done-requires : goal.is_done-requires
-is_done-requires c = c.requires

@@ -12,33 +12,19 @@ returns-then-is_settling c = yes _ (told c.is_settling.ensures c.if-is_settling.
 pub returns-then-is_updating-self : goal.returns-then-is_updating-self
 unfolding due_asking ◌and◌ ◌or◌
 returns-then-is_updating-self c =
-    let updating = c in
-    no _ (told updating.is_settling.ensures updating.if-is_settling.false)
-    (yes _ (rw (← updating.is_updating.ensures, ← c.is_updated.ensures) c.if-is_updating-self.true) refl)
+    no _ (told c.is_settling.ensures c.if-is_settling.false)
+    (yes _ (rw (← c.is_updating.ensures, ← c.is_updated.ensures) c.if-is_updating-self.true) refl)
 
 pub returns-then-self-is_left : goal.returns-then-self-is_left
 unfolding due_asking ◌and◌ ◌or◌
 returns-then-self-is_left c =
-    let updated = c in
-    let updating = updated in
-    no _ (told updating.is_settling.ensures updating.if-is_settling.false)
-    (no _ (rw (← updating.is_updating.ensures, ← updated.is_updated.ensures) c.if-is_updating-self.false)
+    no _ (told c.is_settling.ensures c.if-is_settling.false)
+    (no _ (rw (← c.is_updating.ensures, ← c.is_updated.ensures) c.if-is_updating-self.false)
     (yes _ (rw (← c.is_left.ensures) c.if-self-is_left.true) refl))
 
 pub returns : goal.returns
 unfolding due_asking ◌and◌ ◌or◌
 returns c =
-    let updated = c in
-    let updating = updated in
-    no _ (told updating.is_settling.ensures updating.if-is_settling.false)
-    (no _ (rw (← updating.is_updating.ensures, ← updated.is_updated.ensures) c.if-is_updating-self.false)
+    no _ (told c.is_settling.ensures c.if-is_settling.false)
+    (no _ (rw (← c.is_updating.ensures, ← c.is_updated.ensures) c.if-is_updating-self.false)
     (no _ (rw (← c.is_left.ensures) c.if-self-is_left.false) refl))
-
-pub is_settling-requires : goal.is_settling-requires
-is_settling-requires c = c.requires
-
-pub is_updating-requires : goal.is_updating-requires
-is_updating-requires c = c.requires
-
-pub is_updated-requires : goal.is_updated-requires
-is_updated-requires c = c.requires

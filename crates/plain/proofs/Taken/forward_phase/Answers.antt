@@ -12,23 +12,15 @@ returns-then-self-lt-LEAD c = yes _ (search branches) refl
 pub returns-then-is_done : goal.returns-then-is_done
 unfolding forward_phase
 returns-then-is_done c =
-    let over = c in
     no _ (search branches)
-    (yes _ (told over.is_over.ensures c.if-is_over.true) (yes _ (told c.is_done.ensures c.if-is_done.true) refl))
+    (yes _ (told c.is_over.ensures c.if-is_over.true) (yes _ (told c.is_done.ensures c.if-is_done.true) refl))
 
 pub returns-then-is_over : goal.returns-then-is_over
 unfolding forward_phase
 returns-then-is_over c =
-    let over = c in
     no _ (search branches)
-    (yes _ (told over.is_over.ensures c.if-is_over.true) (no _ (told c.is_done.ensures c.if-is_done.false) refl))
+    (yes _ (told c.is_over.ensures c.if-is_over.true) (no _ (told c.is_done.ensures c.if-is_done.false) refl))
 
 pub returns : goal.returns
 unfolding forward_phase
 returns c = no _ (search branches) (no _ (told c.is_over.ensures c.if-is_over.false) refl)
-
-pub is_over-requires : goal.is_over-requires
-is_over-requires c = c.requires
-
-pub is_done-requires : goal.is_done-requires
-is_done-requires c = c.requires

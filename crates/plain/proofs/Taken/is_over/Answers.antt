@@ -11,6 +11,3 @@ unfolding is_over ◌and◌ ◌or◌
 returns c =
     let t = c.args.self in
     ap (λ (b : Bool). b and (t.closed or ltb 0 t.size)) c.is_updated.ensures
-
-pub is_updated-requires : goal.is_updated-requires
-is_updated-requires c = c.requires

@@ -9,8 +9,7 @@ use Rattle.plain.proofs.Taken.is_updated.Goals as goal
 
 pub overflow_add-result : goal.overflow_add-result
 overflow_add-result c =
-    let start = c in
-    omega (arith, c.lead.ensures, lead_bound start.args.self.structural, start.requires.size)
+    omega (arith, c.lead.ensures, lead_bound c.args.self.structural, c.requires.size)
 
 pub returns : goal.returns
 unfolding is_updated

@@ -12,6 +12,3 @@ unfolding is_updating ◌and◌ ◌or◌
 returns c =
     let t = c.args.self in
     ap (λ (b : Bool). not t.turned and (not t.structural or leb (lead true) t.done and not b)) c.is_over.ensures
-
-pub is_over-requires : goal.is_over-requires
-is_over-requires c = c.requires

@@ -15,9 +15,3 @@ returns-then-self c = yes _ c.if-self.true (no _ c.if-self-2.false c.forward_pha
 pub returns : goal.returns
 unfolding phase_of
 returns c = no _ c.if-self.false refl
-
-pub back_phase-requires : goal.back_phase-requires
-back_phase-requires c = c.requires
-
-pub forward_phase-requires : goal.forward_phase-requires
-forward_phase-requires c = c.requires

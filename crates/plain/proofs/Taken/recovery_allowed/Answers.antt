@@ -17,6 +17,3 @@ unfolding recovery_allowed ◌and◌
 returns c =
     let t = c.args.self in
     ap (λ (b : Bool). t.running and b) (no _ c.if-self.false refl)
-
-pub is_back-requires : goal.is_back-requires
-is_back-requires c = c.requires
