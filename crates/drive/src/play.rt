@@ -19,42 +19,27 @@ use replies::of_answer;
 use script::{LONGEST, read};
 use stamp_replies::{of_check, of_stamp};
 use std::io::{Read, Write};
-use text::front;
+use text::Page;
 
 // A line is kept up to one byte more than it may have, so that one that is too long is seen to be so.
 const LINE: usize = LONGEST + 1;
 
 // How many bytes are read, and written, at once.
-pub(crate) const CHUNK: usize = 65536;
+const CHUNK: usize = 65536;
 
 // Writes out what waits before more is read, and where there may be no room for an answer.
-fn write_on(
-    output: &mut impl Write,
-    buffer: &[u8; CHUNK],
-    written: usize,
-    due: bool,
-) -> Result<usize> {
-    flush_before(output, due, buffer, written, ROOM).context("drive: standard output")
+fn write_on(output: &mut impl Write, page: &mut Page, due: bool) -> Result<()> {
+    flush_before(output, due, page, ROOM).context("drive: standard output")
 }
 
 // The next line.
 fn read_on(
     input: &mut impl Read,
     chunk: &mut [u8; CHUNK],
-    line: &mut [u8; LINE],
+    line: &mut Page,
     place: Place,
 ) -> Result<Place> {
     next_line(input, chunk, line, place).context("drive: standard input")
-}
-
-// The command of a line. A slice is cut here, since an array that is lent cannot be.
-fn command_in(line: &[u8], length: usize) -> Command {
-    read(front(line, length))
-}
-
-// The same of an array, which the loop lends: as a slice its length would have to be shown in each turn.
-fn command_of(line: &[u8; LINE], length: usize) -> Command {
-    command_in(line, length)
 }
 
 // The record of an opening at 0, 0 with an empty payload.
@@ -167,21 +152,22 @@ pub(crate) fn play(input: &mut impl Read, output: &mut impl Write) -> Result<()>
     let mut used = 0;
     let mut scratch = [0u8; SIDE];
     let mut pairs = [0u64; HELD_TABLE];
-    let mut line = [0u8; LINE];
+    let mut line_bytes = [0u8; LINE];
+    let mut line = Page::new(&mut line_bytes);
     let mut chunk = [0u8; CHUNK];
     let mut buffer = [0u8; CHUNK];
+    let mut page = Page::new(&mut buffer);
     let mut record = first_record();
     let mut lent = Lent::first();
     let mut place = start();
-    let mut written = 0;
     for number in 1..=u64::MAX {
         let due = !holds_line(&chunk, place);
-        written = write_on(output, &buffer, written, due)?;
+        write_on(output, &mut page, due)?;
         place = read_on(input, &mut chunk, &mut line, place)?;
-        if place.ended & (place.length == 0) {
+        if place.ended && line.filled().is_empty() {
             return Ok(());
         }
-        let command = command_of(&line, place.length);
+        let command = read(line.filled());
         let stepped = perform(
             command,
             record,
@@ -198,7 +184,7 @@ pub(crate) fn play(input: &mut impl Read, output: &mut impl Write) -> Result<()>
         );
         record = stepped.state;
         lent = lent.after(command);
-        written = put_told(&mut buffer, written, told, record, number);
+        put_told(&mut page, told, record, number);
     }
     Ok(())
 }
