@@ -28,7 +28,7 @@ pub fn are_pairs(n: usize) -> bool
 pub fn put_pairs(table: &mut [u64], pairs: &[u64])
     ensures { table.new ≡ pairs_in pairs.now table.old }
 {
-    areas::copy_words(table, pairs);
+    areas::copy(table, pairs);
 }
 
 // The payload of one action, where the table has it.

@@ -3,7 +3,6 @@
 use super::held::{Lent, SECOND, SIDE, THIRD, part, part_of_words, within};
 use super::telling::Told;
 use commands::{Ending, Marking};
-use copies::copy_bytes;
 use holdings::HELD_LOG;
 use mark_replies::of_mark;
 use record::{Record, Stepped};
@@ -82,7 +81,7 @@ fn recover_retained(
     right: &mut [u8],
     scratch: &mut [u8],
 ) -> Stepped {
-    copy_bytes(scratch, within(left, SECOND, lent.recovery));
+    areas::copy(scratch, within(left, SECOND, lent.recovery));
     retained_on(
         record,
         part_of_words(l, lent.log),
