@@ -1,5 +1,4 @@
--- What a copy or an exchange by blocks has done: reading a block from a place on, putting it over an area, and how far it is then.
--- Assumes nothing.
+-- What an exchange by blocks has done: putting a block over an area, how far the exchange is then, and what is left behind the last block. Assumes nothing.
 use mathlib.Core.Path.{◌≡◌, refl, sym, ap, ◌∙◌}
 use mathlib.Core.List.{List, ◌++◌, append-nil}
 use Prim.Native.Nat.{ℕ, ◌+◌, ◌-◌, ◌≤◌, ◌<◌}

@@ -36,6 +36,7 @@ pub fn store(table: &mut [u64], action: u32, payload: u64)
     ensures { table.new ≡ stored action payload table.old }
 {
     let at = 2 * (action as usize) + 1;
+    // By index: of a slice behind whose `get_mut` was written a proof knows the length alone.
     if at < table.len() {
         table[at] = payload;
     }
