@@ -1,13 +1,13 @@
--- What a copy or an exchange by blocks has done: reading a block from a place on, putting it over an area, and how far it is then.
--- Assumes nothing.
-use mathlib.Core.Path.{◌≡◌, refl, sym, ap, subst, ◌∙◌}
-use mathlib.Core.List.{List, ◌++◌}
-use Prim.Native.Nat.{ℕ, ◌+◌, ◌≤◌, ◌<◌}
+-- What an exchange by blocks has done: putting a block over an area, how far the exchange is then, and what is left behind the last block. Assumes nothing.
+use mathlib.Core.Path.{◌≡◌, refl, sym, ap, ◌∙◌}
+use mathlib.Core.List.{List, ◌++◌, append-nil}
+use Prim.Native.Nat.{ℕ, ◌+◌, ◌-◌, ◌≤◌, ◌<◌}
 use native.Mathlib.Numerals.{add-one}
 use native.Mathlib.Omega.{arith}
 use lib.ListN.{length, take, drop, get_or, set, length-set, length-drop, take-append-drop}
-use lib.Seq.{length-take-le, take_at, drop_at, get_or-drop, take-take, take-add, drop-drop, paste, paste-zero, paste-suc, length-paste}
-use Rattle.areas.proofs.Over.{Copying, copy_more}
+use lib.Seq.{length-take-le, take_at, drop_at, take-length, drop-length, take-take, take-add, drop-drop, paste, paste-zero, paste-suc, length-paste}
+use borrow.Rule.Slice.PartMut.{put_mid}
+use Rattle.areas.proofs.Over.{Copying}
 
 -- a copy that is under way: what is copied, and behind it what was there
 module _ {d s m : List ℕ} {i : ℕ} (v : Copying d s m i) where
@@ -34,14 +34,17 @@ module _ {d s x y : List ℕ} {i : ℕ} (v : Copying d s x i) (w : Copying s d y
   pub swap_part : {l : List ℕ} (n : ℕ) → l ≡ paste x i (drop i y) n → i + n ≤ length s → i + n ≤ length d → Copying d s l (i + n)
   swap_part n e hs hd = part_more v n (e ∙ ap (λ (r : List ℕ). paste x i r n) (kept w)) hs hd
 
-  pub swap_rest : {l : List ℕ} → l ≡ take i x ++ drop i y → l ≡ s
-  swap_rest e = e ∙ ap (λ (r : List ℕ). r ++ drop i y) (done v) ∙ ap (λ (r : List ℕ). take i s ++ r) (kept w) ∙ take-append-drop i s
-
--- one turn of reading a block from a place of s on
-pub read_more : (s : List ℕ) (at : ℕ) {b l : List ℕ} {j : ℕ} → Copying b (drop at s) l j → at + j < length s → j < length b
-    → Copying b (drop at s) (set l j (get_or s (at + j) 0)) (j + 1)
-read_more s at {b} {l} {j} v hs hb =
-    subst (λ (e : ℕ). Copying b (drop at s) (set l j e) (j + 1)) (get_or-drop at s j 0) (copy_more v (omega (arith, length-drop at s)) hb)
+  pub swap_rest : {z : List ℕ} → length s ≡ length d → z ≡ take (length y - i) (drop i y) → put_mid i (length x - i) x z ≡ s
+  swap_rest same e =
+      let n = length x - i in
+      let all : length y - i ≡ length (drop i y) = sym (length-drop i y) in
+      let end : i + n ≡ length x = omega (arith, v.within, v.long, same) in
+      ap (λ (r : List ℕ). take i x ++ (r ++ drop n (drop i x))) (e ∙ ap (λ (q : ℕ). take q (drop i y)) all ∙ take-length (drop i y))
+      ∙ ap (λ (r : List ℕ). take i x ++ (drop i y ++ r)) (drop-drop n i x ∙ ap (λ (q : ℕ). drop q x) end ∙ drop-length x)
+      ∙ ap (λ (r : List ℕ). take i x ++ r) (append-nil (drop i y))
+      ∙ ap (λ (r : List ℕ). r ++ drop i y) (done v)
+      ∙ ap (λ (r : List ℕ). take i s ++ r) (kept w)
+      ∙ take-append-drop i s
 
 -- the loop's area l after the first j of b were put over d from a place on
 pub record Putting (d : List ℕ) (at : ℕ) (b l : List ℕ) (j : ℕ) : Type 0 where

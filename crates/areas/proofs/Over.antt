@@ -1,12 +1,12 @@
 -- What a loop that copies or exchanges has done when it has come to i: the first i of s over d, whatever the elements are. Assumes nothing.
-use mathlib.Core.Path.{◌≡◌, refl, sym, ap, subst, ◌∙◌}
-use mathlib.Core.List.{List, ◌++◌, append-nil}
+use mathlib.Core.Path.{◌≡◌, refl, sym, ap, ◌∙◌}
+use mathlib.Core.List.{List, ◌++◌}
 use Prim.Native.Nat.{ℕ, suc, ◌+◌, ◌-◌, ◌≤◌, ◌<◌}
-use native.Mathlib.Nat.{le_of_lt, le_refl}
+use native.Mathlib.Nat.{le_of_lt}
 use native.Mathlib.Numerals.{add-one}
 use native.Mathlib.Omega.{arith}
-use lib.ListN.{length, take, drop, get_or, set, length-set, length-append, length-drop, take-append-drop}
-use lib.Seq.{length-take-le, take_at, take-length, drop-length, take-suc, drop-cons, append_snoc, set_at, get_or-append-add, get_or-drop}
+use lib.ListN.{length, take, drop, get_or, set, length-set}
+use lib.Seq.{length-take-le, take-length, take-suc, drop-cons, append_snoc, set_at, get_or-append-add, get_or-drop}
 
 -- d with its first i elements replaced by those of s
 abbrev pub over : {A : Type 0} → List A → List A → ℕ → List A
@@ -20,16 +20,6 @@ pub record Copying {A : Type 0} (d s l : List A) (i : ℕ) : Type 0 where
 
 pub copy_none : {A : Type 0} (d s : List A) → Copying d s d 0
 copy_none d s = record { within = omega arith; front = refl; long = refl }
-
--- one from a place on, of which nothing is done yet: what it will leave is s behind the place and d in front of it
-pub copy_from : {A : Type 0} (d s : List A) (at : ℕ) → at ≤ length d → Copying d (over s d at) d at
-copy_from d s at h =
-    let e = length-take-le at d h in
-    record {
-      within = omega (arith, e, length-append (take at d) (drop at s));
-      front = sym (ap (λ (r : List _). r ++ drop at d) (take_at (take at d) (drop at s) at e) ∙ take-append-drop at d);
-      long = refl;
-    }
 
 module _ {A : Type 0} (z : A) (d s : List A) where
   over_suc : (i : ℕ) → i < length s → i < length d → set (over d s i) i (get_or s i z) ≡ over d s (i + 1)
@@ -62,30 +52,3 @@ module _ {A : Type 0} {d s : List A} where
   -- a copy that is through
   pub copy_all : {l : List A} {i : ℕ} → Copying d s l i → i ≡ length s → l ≡ s ++ drop (length s) d
   copy_all v e = v.front ∙ ap (over d s) e ∙ ap (λ (r : List A). r ++ drop (length s) d) (take-length s)
-
-  -- one that fills an area of n, and leaves nothing of it
-  pub copy_full : {l : List A} {i : ℕ} (n : ℕ) → Copying d s l i → i ≡ n → length d ≡ n → l ≡ take n s
-  copy_full n v e f =
-      v.front ∙ ap (over d s) e ∙ ap (λ (r : List A). take n s ++ r) (ap (λ (k : ℕ). drop k d) (sym f) ∙ drop-length d) ∙ append-nil (take n s)
-
-  -- and is of all of s
-  pub copy_whole : {l : List A} {i : ℕ} → Copying d s l i → i ≡ length s → i ≡ length d → l ≡ s
-  copy_whole v e f = copy_full (length s) v e (sym f ∙ e) ∙ take-length s
-
--- one turn of a copy of numbers
-pub copy_more : {d s l : List ℕ} {i : ℕ} → Copying d s l i → i < length s → i < length d → Copying d s (set l i (get_or s i 0)) (i + 1)
-copy_more v hs hd = copy_on 0 v hs hd
-
--- as long as the one that is written over
-pub over_long : (d s : List ℕ) (i : ℕ) → i ≤ length s → i ≤ length d → length (over d s i) ≡ length d
-over_long d s i hs hd = simp (length-append, length-take-le, length-drop) (omega arith)
-
--- one turn of an exchange from a place on: x takes from y what y has not yet given away
-pub swap_more : {d s x y : List ℕ} {at i : ℕ} → Copying d (over s d at) x i → Copying s (over d s at) y i → at ≤ i → i < length s → i < length d
-    → Copying d (over s d at) (set x i (get_or y i 0)) (i + 1)
-swap_more {d} {s} {x} {y} {at} {i} v w h hs hd =
-    let given : get_or y i 0 ≡ get_or (over s d at) i 0 =
-    ap (λ (l : List ℕ). get_or l i 0) w.front
-    ∙ over_rest 0 s (over d s at) i i w.within (le_refl i)
-    ∙ sym (over_rest 0 s d at i (omega arith) h) in
-    subst (λ (e : ℕ). Copying d (over s d at) (set x i e) (i + 1)) (sym given) (copy_more v (omega (arith, over_long s d at (omega arith) (omega arith))) hd)

@@ -14,7 +14,7 @@ unfoldable pub long : ℕ → Bool
 long n = ltb area_size n
 
 -- "Copying writes only the payload's bytes or the pairs' words"; what does not fit is not copied
-unfoldable pub copied : List ℕ → List ℕ → List ℕ
+unfoldable pub copied : {A : Type 0} → List A → List A → List A
 copied payload area = pick (ltb (length area) (length payload)) area (payload ++ drop (length payload) area)
 
 -- "exchanged whole": both areas afterwards; areas of two sizes stay

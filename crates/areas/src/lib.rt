@@ -1,8 +1,8 @@
-// Lent areas of bytes and words: their size, copying words to the front of one, and exchanging two of bytes. Each public
-// function is total: what does not fit is left alone.
+// Lent areas of bytes and words: their size, copying to the front of one, and exchanging two of bytes. Each public function is total:
+// what does not fit is left alone.
 #![tactic(auto)]
 
-ghost use Rattle.std.specs.Prelude.{◌≡◌, ◌∷◌, [], ◌++◌, ◌+◌, ◌≤◌, eqb, length, take, drop};
+ghost use Rattle.std.specs.Prelude.{◌≡◌, ◌∷◌, [], ◌+◌, ◌≤◌, eqb, length, take, drop};
 ghost use Rattle.std.proofs.Math.Seq.{paste};
 ghost use Rattle.areas.specs.Areas.{area_size, copied, exchanged};
 ghost use Rattle.areas.specs.Blocks.{block_size};
@@ -20,18 +20,13 @@ pub fn is_sized(n: usize) -> bool
     n == SIZE
 }
 
-// All words of src over the first of dst, where they fit.
-pub fn copy_words(dst: &mut [u64], src: &[u64])
+// All elements of src over the first of dst, where they fit: the bytes of a payload, or words.
+pub fn copy<T: Copy>(dst: &mut [T], src: &[T])
     ensures { dst.new ≡ copied src.now dst.old }
 {
     let n = src.len();
-    if dst.len() < n {
-        return;
-    }
-    let mut i = 0;
-    while i < n {
-        dst[i] = src[i];
-        i += 1;
+    if n <= dst.len() {
+        dst[..n].copy_from_slice(src);
     }
 }
 
@@ -42,23 +37,18 @@ fn block_at(src: &[u8], at: usize) -> [u8; BLOCK]
     ensures { result ≡ take block_size (drop at src.now) }
 {
     let mut block = [0; BLOCK];
-    let mut j = 0;
-    while j < BLOCK {
-        block[j] = src[at + j];
-        j += 1;
-    }
+    block.copy_from_slice(&src[at..at + BLOCK]);
     block
 }
 
 // A block over the bytes of dst that start at a place.
-fn put_block(dst: &mut [u8], at: usize, block: &[u8])
-    requires { (at + block_size ≤ length dst.old) × (length block.now ≡ block_size) }
+fn put_block(dst: &mut [u8], at: usize, block: &[u8; BLOCK])
+    requires { at + block_size ≤ length dst.old }
     ensures { dst.new ≡ paste dst.old at block.now block_size }
 {
-    let mut j = 0;
-    while j < BLOCK {
+    // By index: with `copy_from_slice` the blocks lie in memory, not in registers, and an exchange takes 2.2 times as long as Rust's, not 0.95.
+    for j in 0..BLOCK {
         dst[at + j] = block[j];
-        j += 1;
     }
 }
 
@@ -75,23 +65,7 @@ fn exchange_blocks(a: &mut [u8], b: &mut [u8], at: usize)
     put_block(b, at, &x);
 }
 
-// What two areas of one size have from a place on changes places byte by byte.
-fn exchange_bytes(a: &mut [u8], b: &mut [u8], at: usize)
-    requires { (length b.old ≡ length a.old) × (at ≤ length a.old) }
-    ensures { (a.new ≡ take at a.old ++ drop at b.old)
-        × (b.new ≡ take at b.old ++ drop at a.old) }
-{
-    let n = a.len();
-    let mut i = at;
-    while i < n {
-        let x = a[i];
-        a[i] = b[i];
-        b[i] = x;
-        i += 1;
-    }
-}
-
-// Two areas of one size change places.
+// Two areas of one size change places, in blocks through local arrays (request 5); `swap_with_slice` alone has none.
 pub fn exchange(a: &mut [u8], b: &mut [u8])
     ensures { a.new ∷ b.new ∷ [] ≡ exchanged a.old b.old }
 {
@@ -99,10 +73,10 @@ pub fn exchange(a: &mut [u8], b: &mut [u8])
     if b.len() != n {
         return;
     }
-    let mut i = 0;
-    while BLOCK <= n - i {
-        exchange_blocks(a, b, i);
-        i += BLOCK;
+    let whole = n / BLOCK;
+    for k in 0..whole {
+        exchange_blocks(a, b, BLOCK * k);
     }
-    exchange_bytes(a, b, i);
+    let rest = BLOCK * whole;
+    a[rest..].swap_with_slice(&mut b[rest..]);
 }

@@ -28,7 +28,7 @@ pub fn are_pairs(n: usize) -> bool
 pub fn put_pairs(table: &mut [u64], pairs: &[u64])
     ensures { table.new ≡ pairs_in pairs.now table.old }
 {
-    areas::copy_words(table, pairs);
+    areas::copy(table, pairs);
 }
 
 // The payload of one action, where the table has it.
@@ -36,6 +36,7 @@ pub fn store(table: &mut [u64], action: u32, payload: u64)
     ensures { table.new ≡ stored action payload table.old }
 {
     let at = 2 * (action as usize) + 1;
+    // By index: of a slice behind whose `get_mut` was written a proof knows the length alone.
     if at < table.len() {
         table[at] = payload;
     }

@@ -4,17 +4,16 @@ use mathlib.Core.Path.{◌≡◌, sym, ◌∙◌, ap}
 use mathlib.Core.List.{List, ◌∷◌}
 use Rattle.std.specs.Prelude.{Bool, Result}
 use Rattle.answers.specs.Answers.{Said}
+use Rattle.answers.specs.declared.Refusal.{Refusal}
 use Rattle.record.specs.Answers.{Told, told, said_of, tells}
 use Rattle.record.specs.Leaves.{Leaves, leaves}
 use Rattle.record.specs.declared.Record.{Record}
 use Rattle.record.specs.declared.Stepped.{Stepped}
 use Rattle.record.proofs.Telling.{tells_one}
-use Rattle.answers.specs.declared.Refusal.{Refusal}
 use Rattle.step_stamps.specs.Stamping.{says_stamping, says_checked}
 use Rattle.step_stamps.specs.declared.SaveStamp.{SaveStamp}
 use Rattle.step_stamps.proofs.Saying.{stamping_one, checked_one}
 use Rattle.status.specs.Status.{Marks, leaves_marks, says_marked}
-use Rattle.status.specs.declared.Marked.{Marked}
 use Rattle.status.proofs.Marking.{marked_one}
 
 -- a promise of the form x ≡ d
@@ -49,8 +48,8 @@ one_stamped r d a b p q = stamping_one a b (ap said_of (one p q))
 pub one_checking : (r : Record) (d : Told) (a b : Result Bool Refusal) → told (says_checked a) r ≡ d → told (says_checked b) r ≡ d → a ≡ b
 one_checking r d a b p q = checked_one a b (ap said_of (one p q))
 
--- of the form leavesMarks (saysMarked m) bytes ≡ d: the status calls
-pub one_marked : (d : Marks) (a b : Marked) (l m : List ℕ) → leaves_marks (says_marked a) l ≡ d → leaves_marks (says_marked b) m ≡ d → (a ≡ b) × (l ≡ m)
+-- of the form leaves_marks (says_marked m) bytes ≡ d: the status calls
+pub one_marked : (d : Marks) (a b : Result (Unit {0}) Refusal) (l m : List ℕ) → leaves_marks (says_marked a) l ≡ d → leaves_marks (says_marked b) m ≡ d → (a ≡ b) × (l ≡ m)
 one_marked d a b l m p q =
     let e = one p q in
     (marked_one a b (ap (λ (x : Marks). x.said) e), ap (λ (x : Marks). x.status) e)

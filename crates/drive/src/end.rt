@@ -2,12 +2,11 @@
 // is lent to the recorder; status calls never do. By the letters of a script: a accepted, c candidate, r recovery, x exchange, l the log.
 use super::held::{Lent, SECOND, SIDE, THIRD, part, part_of_words, within};
 use super::telling::Told;
+use answers::Refusal;
 use commands::{Ending, Marking};
-use copies::copy_bytes;
 use holdings::HELD_LOG;
 use mark_replies::of_mark;
 use record::{Record, Stepped};
-use status::Marked;
 
 fn commit_on(record: Record, l: &mut [u64], a: &mut [u8], c: &mut [u8]) -> Stepped {
     match l.len() {
@@ -82,7 +81,7 @@ fn recover_retained(
     right: &mut [u8],
     scratch: &mut [u8],
 ) -> Stepped {
-    copy_bytes(scratch, within(left, SECOND, lent.recovery));
+    areas::copy(scratch, within(left, SECOND, lent.recovery));
     retained_on(
         record,
         part_of_words(l, lent.log),
@@ -110,7 +109,7 @@ pub(crate) fn end(
     }
 }
 
-fn mark_on(which: Marking, g: &[u8], s: &mut [u8]) -> Marked {
+fn mark_on(which: Marking, g: &[u8], s: &mut [u8]) -> Result<(), Refusal> {
     match which {
         Marking::Link { id, domain } => status::link(g, s, id, domain),
         Marking::Initialize(id) => status::initialize(g, s, id),

@@ -1,4 +1,4 @@
-// For callers in C or Rust, under names of C's: copying and exchanging lent bytes, as `copies` and `areas` have it, finding and moving in a
+// For callers in C or Rust, under names of C's: copying and exchanging lent bytes, as `areas` has it, finding and moving in a
 // tail table, as `tails` has it, and replaying an input log, as `replays` has it. A slice crosses as the address of its first element and
 // its length; numbers cross as they are, so that a tail call is given the revision and the count of replacements of the settings, and the
 // stamp's: the settings are idle, in the domain 0. A static library, for linkers alone: no crate can stand on it.
@@ -21,7 +21,7 @@ use tail_table::{Claim, File, Tail};
 pub extern "C" fn edge_copy(dst: &mut [u8], src: &[u8])
     ensures { dst.new ≡ copied src.now dst.old }
 {
-    copies::copy_bytes(dst, src);
+    areas::copy(dst, src);
 }
 
 // Two areas of one size change places.

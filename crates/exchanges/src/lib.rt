@@ -28,8 +28,8 @@ pub fn replace(step: Stepped, accepted: &mut [u8], recovery: &[u8], exchange: &m
         ∷ copied accepted.old exchange.old ∷ []) }
 {
     if !step.is_refused() {
-        copies::copy_bytes(exchange, accepted);
-        copies::copy_bytes(accepted, recovery);
+        areas::copy(exchange, accepted);
+        areas::copy(accepted, recovery);
     }
     step
 }

@@ -16,7 +16,7 @@ pub fn payload(step: Stepped, area: &mut [u8], payload: &[u8]) -> Stepped
         ≡ moving (tells step) (area.old ∷ []) (copied payload.now area.old ∷ []) }
 {
     if !step.is_refused() {
-        copies::copy_bytes(area, payload);
+        areas::copy(area, payload);
     }
     step
 }

@@ -1,5 +1,5 @@
 -- Document 01, "Status": link, initialize and cancel. Groups are never written, by their type. Assumes nothing.
-use Rattle.std.specs.Prelude.{ℕ, Bool, not, List, [], eqb, leb, ltb, length, get_or, set}
+use Rattle.std.specs.Prelude.{ℕ, Bool, not, List, [], Result, Ok, Err, eqb, leb, ltb, length, get_or, set}
 use Rattle.choice.specs.Pick.{pick, ◌and◌, ◌or◌}
 use Rattle.answers.specs.Classes.Class.{performed, refusal}
 use Rattle.answers.specs.Answers.{Said, said}
@@ -7,13 +7,11 @@ use Rattle.answers.specs.declared.Refusal.{Refusal}
 use Rattle.answers.specs.declared.Refusal.TheVariants.{BadArea, Damaged, NoStatus}
 use Rattle.status_bits.specs.Bits.{group_most, mark_linked, mark_most, has, allowed, next}
 use Rattle.status_bits.specs.declared.StatusCall.{StatusCall}
-use Rattle.status.specs.declared.Marked.{Marked}
-use Rattle.status.specs.declared.Marked.TheVariants as M
 
 -- the class and values of each case
-abbrev pub says_marked : Marked → Said
-says_marked M.Done = said performed []
-says_marked (M.Refused why) = said (refusal why) []
+abbrev pub says_marked : Result (Unit {0}) Refusal → Said
+says_marked (Ok u) = said performed []
+says_marked (Err why) = said (refusal why) []
 
 -- what a call answers, and the status bytes that it leaves
 pub record Marks : Type 0 where
@@ -54,11 +52,11 @@ entry_of groups status id =
 -- "13 unless" the call is allowed; then that id's byte is the next one
 unfoldable pub put : Bool → ℕ → ℕ → List ℕ → Marks
 put allowed id mark status =
-    pick (not allowed) (leaves_marks (says_marked (M.Refused NoStatus)) status) (leaves_marks (says_marked M.Done) (set status id mark))
+    pick (not allowed) (leaves_marks (says_marked (Err NoStatus)) status) (leaves_marks (says_marked (Ok tt)) (set status id mark))
 
 -- the rest of a call, by what was found at the id
 unfoldable pub marking : StatusCall → List ℕ → Entry → Marks
-marking c status (No why) = leaves_marks (says_marked (M.Refused why)) status
+marking c status (No why) = leaves_marks (says_marked (Err why)) status
 marking c status (At id group mark) = put (allowed c group mark) id (next c mark) status
 
 -- what a call answers and leaves, of group bytes, status bytes and an id

@@ -1,5 +1,5 @@
 -- Document 01, "Status": the bits of the bytes, what a call asks of them, and what it leaves. Assumes nothing.
-use Rattle.std.specs.Prelude.{ℕ, ◌+◌, ◌/◌, ◌%◌, Bool, not, eqb}
+use Rattle.std.specs.Prelude.{ℕ, ◌+◌, ◌/◌, ◌%◌, Bool, not, ◌||◌, IsTrue, eqb}
 use Rattle.choice.specs.Pick.{pick, ◌and◌}
 use Rattle.status_bits.specs.declared.StatusCall.{StatusCall}
 use Rattle.status_bits.specs.declared.StatusCall.TheVariants.{Link, Initialize, Cancel}
@@ -32,6 +32,10 @@ mark_finished = 8
 
 abbrev pub mark_most : ℕ
 mark_most = mark_linked + mark_cancelled + mark_initialized + mark_finished
+
+-- a number that is one of these bits
+abbrev pub IsBit : ℕ → Type 0
+IsBit bit = IsTrue (eqb bit 1 || eqb bit 2 || eqb bit 4 || eqb bit 8)
 
 -- whether a byte has a bit, and the byte with that bit set alone
 unfoldable pub has : ℕ → ℕ → Bool

@@ -1,8 +1,8 @@
 // The bits of an id's group byte and status byte: whether a status call is allowed by them, and the status byte that it leaves.
 #![tactic(auto)]
 
-ghost use Rattle.std.specs.Prelude.{◌+◌, ◌≤◌, ◌≡◌, false};
-ghost use Rattle.status_bits.specs.Bits.{has, with, allowed, next};
+ghost use Rattle.std.specs.Prelude.{◌≡◌};
+ghost use Rattle.status_bits.specs.Bits.{IsBit, has, with, allowed, next};
 
 // The bits of a group byte, and the greatest one.
 pub const GROUP_LIVE: u8 = 1;
@@ -34,18 +34,18 @@ pub enum StatusCall {
 
 // Whether the byte has the bit.
 fn has(bit: u8, byte: u8) -> bool
-    requires { 1 ≤ bit }
+    requires { IsBit bit }
     ensures { result ≡ has bit byte }
 {
-    byte / bit % 2 == 1
+    byte & bit != 0
 }
 
 // The byte with the bit, and every other bit as it was.
 fn with(bit: u8, byte: u8) -> u8
-    requires { (1 ≤ bit) × (has bit byte ≡ false → byte + bit ≤ 255) }
+    requires { IsBit bit }
     ensures { result ≡ with bit byte }
 {
-    if has(bit, byte) { byte } else { byte + bit }
+    byte | bit
 }
 
 // Whether the call is allowed, by the id's two bytes.

@@ -1,11 +1,13 @@
--- `areas::exchange` meets its contract: the first i bytes have changed places, block by block, and then the rest. Assumes nothing.
-use mathlib.Core.Path.{refl}
+-- `areas::exchange` meets its contract: the first k blocks have changed places, and then the rest. Assumes nothing.
+use mathlib.Core.Path.{◌≡◌, refl, sym, subst}
+use Prim.Native.Nat.{ℕ, ◌+◌, ◌*◌, ◌/◌}
+use lib.ListN.{length}
 use native.Mathlib.Omega.{arith}
 use borrow.Author.Tests.{eq-eqb, ne_eqb}
 use Rattle.choice.proofs.Picks.{yes, no}
 use Rattle.areas.specs.Areas.{exchanged}
 use Rattle.areas.specs.Blocks.{block_size}
-use Rattle.areas.proofs.Over.{copy_none}
+use Rattle.areas.proofs.Over.{Copying, copy_none}
 use Rattle.areas.proofs.Blocks.{swap_part, swap_rest}
 use Rattle.areas.proofs.exchange.Goals as goal
 
@@ -13,23 +15,25 @@ pub returns-then-b-n : goal.returns-then-b-n
 unfolding exchanged
 returns-then-b-n c = no _ (ne_eqb _ _ c.if-b-n.true) refl
 
-pub loop-i-init : goal.loop-i-init
-loop-i-init c = (copy_none _ _, copy_none _ _)
+pub loop-k-init : goal.loop-k-init
+loop-k-init c = (copy_none _ _, copy_none _ _)
 
-pub loop-i-preserved : goal.loop-i-preserved
-loop-i-preserved c =
-    let call = c in
-    let inv = call.loop-i.invariant in
-    let e = call.exchange_blocks.ensures in (
-      swap_part inv.0 inv.1 block_size e.0 (omega arith) (omega arith),
-      swap_part inv.1 inv.0 block_size e.1 (omega arith) (omega arith),
-    )
+pub loop-k-preserved : goal.loop-k-preserved
+loop-k-preserved c =
+    let v = c.loop-k.invariant in
+    let e = c.exchange_blocks.ensures in
+    let next : block_size * c.loop-k.k + block_size ≡ block_size * (c.loop-k.k + 1) = omega arith in
+    let P : ℕ → Type 0 = λ i. Copying c.args.a.now c.args.b.now c.exchange_blocks.new.a i × Copying c.args.b.now c.args.a.now c.exchange_blocks.new.b i in
+    subst P next (swap_part v.0 v.1 block_size e.0 (omega arith) (omega arith), swap_part v.1 v.0 block_size e.1 (omega arith) (omega arith))
 
 pub returns : goal.returns
 unfolding exchanged
 returns c =
-    let call = c in
-    let turn = call in
-    let e = call.exchange_bytes.ensures in
-    yes _ (eq-eqb _ _ turn.if-b-n.false)
-    (cc (swap_rest turn.loop-i.invariant.0 turn.loop-i.invariant.1 e.0, swap_rest turn.loop-i.invariant.1 turn.loop-i.invariant.0 e.1))
+    let a = c.args.a.now in
+    let b = c.args.b.now in
+    let through : c.loop-k.k ≡ length a / block_size = omega arith in
+    let P : ℕ → Type 0 = λ k. Copying a b c.loop-k.a (block_size * k) × Copying b a c.loop-k.b (block_size * k) in
+    let v = subst P through c.loop-k.invariant in
+    let e = c.swap_with_slice.ensures in
+    let same : length b ≡ length a = c.if-b-n.false in
+    yes _ (eq-eqb _ _ same) (cc (swap_rest v.0 v.1 same e.after, swap_rest v.1 v.0 (sym same) e.other_after))

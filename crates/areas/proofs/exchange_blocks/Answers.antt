@@ -5,11 +5,7 @@ use Rattle.areas.proofs.exchange_blocks.Goals as goal
 
 pub returns : goal.returns
 returns c =
-    let second = c in
-    let first = second in
-    let y = first in
-    let x = y in
-    let g = x.args in (
-      put_read g.a.now g.b.now g.at block_size y.block_at-y.ensures first.put_block.ensures,
-      put_read g.b.now g.a.now g.at block_size x.block_at-x.ensures second.put_block-2.ensures,
+    let g = c.args in (
+      put_read g.a.now g.b.now g.at block_size c.block_at-y.ensures c.put_block.ensures,
+      put_read g.b.now g.a.now g.at block_size c.block_at-x.ensures c.put_block-2.ensures,
     )

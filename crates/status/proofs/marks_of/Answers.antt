@@ -7,12 +7,11 @@ use native.Mathlib.Omega.{arith}
 use lib.Dec.{eqb, leb, ltb}
 use lib.ListN.{get_or, set}
 use borrow.Author.Tests.{eqb-true, leb-false, not-false}
-use Rattle.choice.specs.Pick.{◌and◌, ◌or◌}
+use Rattle.choice.specs.Pick.{◌or◌}
 use Rattle.choice.proofs.Picks.{yes, no, told_not}
 use Rattle.choice.proofs.Tests.{neither}
 use Rattle.answers.specs.Classes.Class.{performed}
 use Rattle.answers.specs.Answers.{said}
-use Rattle.status_bits.specs.Bits.{has}
 use Rattle.status.specs.Status.{leaves_marks, most_ids, other_lengths, outside, bytes_sound, entry_of, put, marking}
 use Rattle.status.specs.Status.Entry.{At}
 use Rattle.status.proofs.marks_of.Goals as goal
@@ -52,24 +51,24 @@ pub bounds-status-at : goal.bounds-status-at
 unfolding ◌or◌
 bounds-status-at c = (inside _ _ _ c.if-groups-n.false c.if-id-n.false).1
 
-pub returns-then-not-group-mark : goal.returns-then-not-group-mark
-unfolding marking entry_of bytes_sound has ◌and◌ ◌or◌
-returns-then-not-group-mark c =
+pub returns-then-not-bytes_sound : goal.returns-then-not-bytes_sound
+unfolding marking entry_of ◌or◌
+returns-then-not-bytes_sound c =
     ap (marking _ _) (no _ c.if-groups-n.false (no _ c.if-id-n.false
-    (yes _ (ap not c.if-not-group-mark.true) refl)))
+    (yes _ (told_not c.bytes_sound.ensures (ap not c.if-not-bytes_sound.true)) refl)))
 
 pub returns-then-not-allowed : goal.returns-then-not-allowed
-unfolding marking put bytes_sound has ◌and◌ ◌or◌
+unfolding marking put ◌or◌
 returns-then-not-allowed c =
     yes _ (told_not c.allowed.ensures (ap not c.if-not-allowed.true)) refl
-    ∙ ap (marking _ _) (found _ _ _ c.if-groups-n.false c.if-id-n.false (ap not c.if-not-group-mark.false))
+    ∙ ap (marking _ _) (found _ _ _ c.if-groups-n.false c.if-id-n.false (told_not c.bytes_sound.ensures (ap not c.if-not-bytes_sound.false)))
 
 pub bounds-status-at-2 : goal.bounds-status-at-2
 unfolding ◌or◌
 bounds-status-at-2 c = (inside _ _ _ c.if-groups-n.false c.if-id-n.false).1
 
 pub returns : goal.returns
-unfolding marking bytes_sound has ◌and◌ ◌or◌
+unfolding marking ◌or◌
 returns c =
     written _ _ _ _ _ (told_not c.allowed.ensures (ap not c.if-not-allowed.false)) c.next.ensures
-    ∙ ap (marking _ _) (found _ _ _ c.if-groups-n.false c.if-id-n.false (ap not c.if-not-group-mark.false))
+    ∙ ap (marking _ _) (found _ _ _ c.if-groups-n.false c.if-id-n.false (told_not c.bytes_sound.ensures (ap not c.if-not-bytes_sound.false)))

@@ -16,6 +16,3 @@ returns-in-Initialize c =
       c.has-in-Initialize-3.ensures,
       c.has-in-Initialize-4.ensures,
     )
-
-pub returns-in-Cancel : goal.returns-in-Cancel
-returns-in-Cancel c = simp (c.in-Cancel.is, c.has-in-Cancel.ensures)

@@ -1,8 +1,6 @@
--- `status_bits::has` meets its contract: the code is the definition. Assumes nothing.
-use mathlib.Core.Path.{refl}
-use Rattle.status_bits.specs.Bits.{has}
+-- `status_bits::has` meets its contract. Assumes nothing.
+use Rattle.status_bits.proofs.Masks.{tested}
 use Rattle.status_bits.proofs.has.Goals as goal
 
 pub returns : goal.returns
-unfolding has
-returns c = refl
+returns c = tested _ _ c.requires c.ranges.byte.fits

@@ -1,5 +1,0 @@
--- `status::initialize` meets its contract, as `marks_of` does. Assumes nothing.
-use Rattle.status.proofs.initialize.Goals as goal
-
-pub returns : goal.returns
-returns c = c.marks_of.ensures
