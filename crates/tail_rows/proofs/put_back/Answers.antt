@@ -11,7 +11,7 @@ loop-i-preserved c =
     let l = c.loop-i in
     let stored = put_so l.words l.i _ (omega (arith, l.invariant)) c.put_tail.ensures in
     let turned = put_on l.words c.put_tail.new.words c.args.row l.i stored refl (omega arith) (omega (arith, l.invariant)) (omega arith) l.invariant.copied in
-    record { within = omega arith; long = turned.0 ∙ l.invariant.long; copied = turned.1 }
+    record { long = turned.0 ∙ l.invariant.long; copied = turned.1 }
 
 pub returns : goal.returns
 returns c =
