@@ -58,9 +58,8 @@ pub front_find : (words : List ℕ) (room : Room) (row : List Tail) (used : ℕ)
     → Table words room → take (length words / 3) row ≡ tails_of words → r ≡ find_of (words_of (take room.records row)) used f size c → r ≡ find_of words used f size c
 front_find words room row used f size c o e h = h ∙ ap (λ (ws : List ℕ). find_of ws used f size c) (front_words words room row o e)
 
--- and after a move, where the words are those of the row that is left
-pub front_move : (words words' : List ℕ) (room : Room) (row row' : List Tail) (used : ℕ) (t : Tail) (c : Claim) (v : Verdict)
-    → Table words room → take (length words / 3) row ≡ tails_of words → words' ≡ words_of (take (length words / 3) row')
-    → table_left v used (words_of (take room.records row')) ≡ move_of (words_of (take room.records row)) used t c → table_left v used words' ≡ move_of words used t c
-front_move words words' room row row' used t c v o e w h =
-    ap (table_left v used) (w ∙ ap (λ (n : ℕ). words_of (take n row')) (sym o.records)) ∙ h ∙ ap (λ (ws : List ℕ). move_of ws used t c) (front_words words room row o e)
+-- and after a move, where the words are those of the front that is left
+pub front_move : (words words' : List ℕ) (room : Room) (row front : List Tail) (used : ℕ) (t : Tail) (c : Claim) (v : Verdict)
+    → Table words room → take (length words / 3) row ≡ tails_of words → words' ≡ words_of front
+    → table_left v used (words_of front) ≡ move_of (words_of (take room.records row)) used t c → table_left v used words' ≡ move_of words used t c
+front_move words words' room row front used t c v o e w h = ap (table_left v used) w ∙ h ∙ ap (λ (ws : List ℕ). move_of ws used t c) (front_words words room row o e)
