@@ -2,12 +2,26 @@
 // and after a move they are copied back. It is for the driver.
 #![tactic(auto)]
 
-ghost use Rattle.std.specs.Prelude.{◌≡◌, ◌≤◌, ◌/◌, ◌%◌, length, take};
+ghost use Rattle.std.specs.Prelude.{◌≡◌, ◌≤◌, ◌/◌, ◌%◌, length, take, not, Ok, Err};
+ghost use Rattle.choice.specs.Pick.{pick};
+ghost use Rattle.tail_answers.specs.declared.TailRefusal.TheVariants.{BadArea};
 ghost use Rattle.tail_table.specs.Table.{tails_of, words_of};
+ghost use Rattle.tail_table.specs.Sweeping.{room_of};
 ghost use Rattle.tail_table.specs.TailCalls.{find_of, move_of, table_left};
 
 use tail_answers::{Finding, TailRefusal};
 use tail_table::{Claim, File, MOST_RECORDS, NO_RECORD, Room, Tail, WIDTH};
+
+// The room of words that are a table's.
+fn room_of(words: &[u64]) -> Result<Room, TailRefusal>
+    ensures { result ≡ pick (not (room_of (length words.now)).sized) (Err BadArea) (Ok (room_of (length words.now))) }
+{
+    let room = Room::of_words(words.len());
+    if !room.sized {
+        return Err(TailRefusal::BadArea);
+    }
+    Ok(room)
+}
 
 // The words' records, at the front of a row.
 fn row_of(words: &[u64]) -> [Tail; MOST_RECORDS]
@@ -41,10 +55,7 @@ pub fn find(
 ) -> Result<Finding, TailRefusal>
     ensures { result ≡ find_of words.now used file size claim }
 {
-    let room = Room::of_words(words.len());
-    if !room.sized {
-        return Err(TailRefusal::BadArea);
-    }
+    let room = room_of(words)?;
     let row = row_of(words);
     tail_structs::find(&row[..room.records], used, file, size, claim)
 }
@@ -58,10 +69,7 @@ pub fn move_offset(
 ) -> Result<(), TailRefusal>
     ensures { table_left result used words.new ≡ move_of words.old used tail claim }
 {
-    let room = Room::of_words(words.len());
-    if !room.sized {
-        return Err(TailRefusal::BadArea);
-    }
+    let room = room_of(words)?;
     let mut row = row_of(words);
     let answer = tail_structs::move_offset(&mut row[..room.records], used, tail, claim);
     put_back(words, &row);
