@@ -22,7 +22,14 @@ fn claim(record: Record, domain: u64, stamp: SaveStamp) -> Claim {
     }
 }
 
-fn find(structs: bool, f: &[u64], used: usize, file: File, size: u64, by: Claim) -> Result<Finding, TailRefusal> {
+fn find(
+    structs: bool,
+    f: &[u64],
+    used: usize,
+    file: File,
+    size: u64,
+    by: Claim,
+) -> Result<Finding, TailRefusal> {
     if structs {
         tail_rows::find(f, used, file, size, by)
     } else {
@@ -30,7 +37,13 @@ fn find(structs: bool, f: &[u64], used: usize, file: File, size: u64, by: Claim)
     }
 }
 
-fn move_offset(structs: bool, f: &mut [u64], used: usize, tail: Tail, by: Claim) -> Result<(), TailRefusal> {
+fn move_offset(
+    structs: bool,
+    f: &mut [u64],
+    used: usize,
+    tail: Tail,
+    by: Claim,
+) -> Result<(), TailRefusal> {
     if structs {
         tail_rows::move_offset(f, used, tail, by)
     } else {

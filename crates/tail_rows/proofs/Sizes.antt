@@ -5,7 +5,7 @@ use mathlib.Core.Bool.{Bool, true, false, not}
 use mathlib.Core.List.{List}
 use lib.ListN.{length, take}
 use borrow.Author.Tests.{ltb-false, eqb-true, not-false}
-use Rattle.std.specs.Prelude.{Result, Err}
+use Rattle.std.specs.Prelude.{Result, Ok, Err}
 use Rattle.tail_answers.specs.TailAnswers.{Verdict}
 use Rattle.choice.specs.Pick.{pick}
 use Rattle.choice.proofs.Tests.{neither}
@@ -41,6 +41,23 @@ table words room e h =
     let a = tested words room e h in
     record { threes = eqb-true (length words % 3) 0 (not-false _ (neither a).0); most = ltb-false 768 (length words) (neither a).1; records = ap (λ (r : Room). r.records) e }
 
+-- words' own room, given back where it is a table's, or the refusal of others
+roomed : {room own : Room} (sized : Bool) → pick (not sized) (Err BadArea) (Ok own) ≡ Ok room → (own ≡ room) × (not sized ≡ false)
+unfolding pick
+roomed true h = (cc, refl)
+roomed false h = cc
+
+pub has_room : {r : Result Room TailRefusal} {room : Room} (own : Room) → r ≡ pick (not own.sized) (Err BadArea) (Ok own) → r ≡ Ok room → (room ≡ own) × (not room.sized ≡ false)
+has_room own e h = let k = roomed own.sized (sym e ∙ h) in (sym k.0, ap (λ (x : Room). not x.sized) (sym k.0) ∙ k.1)
+
+unroomed : {why : TailRefusal} (own : Room) (sized : Bool) → pick (not sized) (Err BadArea) (Ok own) ≡ Err why → (why ≡ BadArea) × (not sized ≡ true)
+unfolding pick
+unroomed own true h = cc
+unroomed own false h = (cc, refl)
+
+pub no_room : {r : Result Room TailRefusal} {why : TailRefusal} (own : Room) → r ≡ pick (not own.sized) (Err BadArea) (Ok own) → r ≡ Err why → (why ≡ BadArea) × (not own.sized ≡ true)
+no_room own e h = unroomed own own.sized (sym e ∙ h)
+
 -- of others the first refusal is given
 pub others_find : (words : List ℕ) (room : Room) (used : ℕ) (f : File) (size : ℕ) (c : Claim) → room ≡ room_of (length words) → not room.sized ≡ true → Err BadArea ≡ find_of words used f size c
 unfolding pick
@@ -58,9 +75,8 @@ pub front_find : (words : List ℕ) (room : Room) (row : List Tail) (used : ℕ)
     → Table words room → take (length words / 3) row ≡ tails_of words → r ≡ find_of (words_of (take room.records row)) used f size c → r ≡ find_of words used f size c
 front_find words room row used f size c o e h = h ∙ ap (λ (ws : List ℕ). find_of ws used f size c) (front_words words room row o e)
 
--- and after a move, where the words are those of the row that is left
-pub front_move : (words words' : List ℕ) (room : Room) (row row' : List Tail) (used : ℕ) (t : Tail) (c : Claim) (v : Verdict)
-    → Table words room → take (length words / 3) row ≡ tails_of words → words' ≡ words_of (take (length words / 3) row')
-    → table_left v used (words_of (take room.records row')) ≡ move_of (words_of (take room.records row)) used t c → table_left v used words' ≡ move_of words used t c
-front_move words words' room row row' used t c v o e w h =
-    ap (table_left v used) (w ∙ ap (λ (n : ℕ). words_of (take n row')) (sym o.records)) ∙ h ∙ ap (λ (ws : List ℕ). move_of ws used t c) (front_words words room row o e)
+-- and after a move, where the words are those of the front that is left
+pub front_move : (words words' : List ℕ) (room : Room) (row front : List Tail) (used : ℕ) (t : Tail) (c : Claim) (v : Verdict)
+    → Table words room → take (length words / 3) row ≡ tails_of words → words' ≡ words_of front
+    → table_left v used (words_of front) ≡ move_of (words_of (take room.records row)) used t c → table_left v used words' ≡ move_of words used t c
+front_move words words' room row front used t c v o e w h = ap (table_left v used) w ∙ h ∙ ap (λ (ws : List ℕ). move_of ws used t c) (front_words words room row o e)

@@ -5,9 +5,7 @@ use mathlib.Core.Bool.{Bool, true, false}
 use mathlib.Core.List.{List}
 use lib.Dec.{T, leb, leb→le}
 use lib.ListN.{length, take}
-use lib.Seq.{set_out}
 use native.Mathlib.Omega.{arith}
-use Rattle.std.specs.Prelude.{Ok, Err}
 use Rattle.tail_answers.specs.TailAnswers.{Verdict}
 use Rattle.choice.specs.Pick.{pick, ◌and◌}
 use Rattle.tail_table.specs.Table.{most_records, words_of, file_of}
@@ -21,7 +19,7 @@ use Rattle.tail_table.specs.declared.Room.{Room}
 use Rattle.tail_sweeps.proofs.Words.{tails_back, words_long}
 use Rattle.tail_sweeps.proofs.Deciding.{find_so, same_room}
 use Rattle.tail_sweeps.proofs.Moving.{move_so}
-use Rattle.tail_structs.specs.Structs.{looked, stored_at, decided, planned, offset_set}
+use Rattle.tail_structs.specs.Structs.{looked}
 
 -- no more records are looked at than there are
 picked : (sized fits : Bool) (used n : ℕ) → (T fits → used ≤ n) → pick (sized and fits) used 0 ≤ n
@@ -45,29 +43,21 @@ pub find_agrees : (ts : List Tail) (used : ℕ) (f : File) (size : ℕ) (c : Cla
 unfolding looked
 find_agrees ts used f size c = (λ i. find_by (room_of_lem ts i) used (seen (room_of_lem ts i) (sym (tails_back ts) i) used f) size c) ∙ find_so (words_of ts) used f size c
 
-itself : (n : ℕ) → n ≤ n
-itself n = omega arith
-
--- the record that is stored to
-stored : (v : Verdict) (place offset : ℕ) (ts : List Tail) → offset_set (stored_at v place (length ts)) offset ts ≡ placed v place offset ts
-unfolding offset_set
-stored (Ok u) place offset ts = refl
-stored (Err why) place offset ts = set_out ts (length ts) _ (itself (length ts))
-
 -- a table's words are three to a record
 thirds : (n : ℕ) → n * 3 % 3 ≡ 0
 thirds n = omega arith
 
-pub move_agrees : (ts : List Tail) (used : ℕ) (t : Tail) (c : Claim)
-    → table_left (planned ts used t c).answer used (words_of (offset_set (planned ts used t c).at t.offset ts)) ≡ move_of (words_of ts) used t c
-unfolding looked decided
-move_agrees ts used t c =
-    ap (λ (us : List Tail). table_left (answer (room_for (length ts)) ts) used (words_of us)) (stored (answer (room_for (length ts)) ts) (seen (room_for (length ts)) ts used (file_of t)).place t.offset ts)
-    ∙ (λ i. leaves (room_of_lem ts i) (sym (tails_back ts) i))
+-- so moving by a sweep s, its answer v and the records after it are those of the call on flat words
+pub move_agrees : (ts : List Tail) (used : ℕ) (t : Tail) (c : Claim) {room : Room} {f : File} {s : Sweep} {v : Verdict}
+    → room ≡ room_for (length ts) → f ≡ file_of t → s ≡ looked ts used f → v ≡ move_by room used s t.offset c
+    → table_left v used (words_of (placed v s.place t.offset ts)) ≡ move_of (words_of ts) used t c
+unfolding looked
+move_agrees ts used t c {room} {f} {s} {v} p q r e =
+    ap (λ (x : Verdict). table_left x used (words_of (placed x s.place t.offset ts))) e
+    ∙ ap (leaves room ts) (r ∙ ap (looked ts used) q)
+    ∙ ap (λ (x : Room). leaves x ts (looked ts used (file_of t))) p
+    ∙ (λ i. leaves (room_of_lem ts i) (sym (tails_back ts) i) (seen (room_of_lem ts i) (sym (tails_back ts) i) used (file_of t)))
     ∙ move_so (words_of ts) used t c (ap (λ (n : ℕ). n % 3) (words_long ts) ∙ thirds (length ts))
   where
-    answer : Room → List Tail → Verdict
-    answer room us = move_by room used (seen room us used (file_of t)) t.offset c
-
-    leaves : Room → List Tail → TableLeft
-    leaves room us = table_left (answer room us) used (words_of (placed (answer room us) (seen room us used (file_of t)).place t.offset us))
+    leaves : Room → List Tail → Sweep → TableLeft
+    leaves x us z = table_left (move_by x used z t.offset c) used (words_of (placed (move_by x used z t.offset c) z.place t.offset us))

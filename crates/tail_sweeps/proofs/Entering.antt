@@ -71,6 +71,3 @@ module _ (w₀ : List ℕ) (place used : ℕ) (t : Tail) (r : used < length (tai
 
     pub enter-all : i ≡ used → w' ≡ words_of (set (tails_of w) used carried) → w' ≡ over_first (entered t (used_of w₀ used)) w₀
     enter-all e s = let n = long in shift-all (last e s) (omega (arith, e, n))
-
-    pub enter-long : i ≡ used → w' ≡ words_of (set (tails_of w) used carried) → length w' ≡ length w₀
-    enter-long e s = (last e s).same_long

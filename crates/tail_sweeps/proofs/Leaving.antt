@@ -72,6 +72,3 @@ module _ (w₀ : List ℕ) (place used : ℕ) (r : used ≤ length (tails_of w�
 
     pub leave-all : i + 1 ≡ used → w' ≡ words_of (set (tails_of w) i zeroes) → w' ≡ over_first (less_of w₀ place used) w₀
     leave-all e s = shift-all (last e s) (e ∙ sym long)
-
-    pub leave-long : i + 1 ≡ used → w' ≡ words_of (set (tails_of w) i zeroes) → length w' ≡ length w₀
-    leave-long e s = (last e s).same_long

@@ -62,7 +62,8 @@ pub struct Sweep {
     pub count: usize,
     pub last: File,
     pub ordered: bool,
-    // whether the file stands among them, at which place first, and its saved offset there
+    // whether the file stands among them, at which place first, and its saved offset there: three fields and no Option, since each is
+    // its own definition's value of the records (`stands`, `spot_of`, `saved_of`), of which the laws of tail_laws speak
     pub met: bool,
     pub place: usize,
     pub offset: u64,

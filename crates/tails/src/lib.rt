@@ -8,7 +8,9 @@ ghost use Rattle.tail_table.specs.TailCalls.{table_left, counted, find_of, add_o
 ghost use Rattle.tail_table.specs.Sweeping.{room_of, reach_of, place_of, swept, cut};
 
 use tail_answers::{Finding, TailRefusal};
-use tail_table::{Claim, File, NO_RECORD, Room, Sweep, Tail, WIDTH, add_by, find_by, move_by, remove_by};
+use tail_table::{
+    Claim, File, NO_RECORD, Room, Sweep, Tail, WIDTH, add_by, find_by, move_by, remove_by,
+};
 
 // Record i of the words; past the end stand zeroes.
 pub fn tail_at(words: &[u64], i: usize) -> Tail
@@ -54,6 +56,7 @@ fn sweep(words: &[u64], used: usize, file: File) -> Sweep
 {
     let n = Room::of_words(words.len()).reach(used);
     let mut s = Sweep::start(file);
+    // An index, not chunks: a record is read by its place here as where records are moved, and past the end stand zeroes.
     for i in 0..n {
         s = s.step(tail_at(words, i), i + 1);
     }

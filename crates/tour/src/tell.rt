@@ -58,10 +58,14 @@ pub(crate) fn ended(rt: &impl Print, by: End, last: Stepped) -> io::Result<()> {
 }
 
 // Writes 1 where the stamp of a plan passes, and 0 where it does not.
-pub(crate) fn verdict(rt: &impl Print, r: Record, plan: Result<SaveStamp, Refusal>) -> io::Result<()> {
+pub(crate) fn verdict(
+    rt: &impl Print,
+    r: Record,
+    plan: Result<SaveStamp, Refusal>,
+) -> io::Result<()> {
     let Ok(stamp) = plan else {
         return Ok(());
     };
-    let passes = transaction::check(r, DOMAIN, stamp) == Ok(true);
+    let passes = matches!(transaction::check(r, DOMAIN, stamp), Ok(true));
     tell(rt, "the stamp passes: ", u64::from(passes))
 }

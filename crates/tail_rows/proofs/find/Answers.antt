@@ -1,21 +1,34 @@
 -- `tail_rows::find` meets its contract: the row's front has the words' records. Assumes nothing.
-use Rattle.std.proofs.Common.{arith}
-use Rattle.tail_rows.proofs.Sizes.{table, others_find, front_find}
+use Rattle.std.proofs.Common.{◌≡◌, Err, length, refl, sym, ap, ◌∙◌, arith, rules}
+use lib.Seq.{length-take-le}
+use Rattle.tail_table.specs.Sweeping.{room_of}
+use Rattle.tail_rows.proofs.Sizes.{table, has_room, no_room, others_find, front_find}
 use Rattle.tail_rows.proofs.find.Goals as goal
 
-pub returns-then-not-room : goal.returns-then-not-room
-returns-then-not-room c =
-    others_find c.args.words.now _ c.args.used c.args.file c.args.size c.args.claim c.of_words-room.ensures c.if-not-room.true
+pub returns-in_err-room : goal.returns-in_err-room
+returns-in_err-room c =
+    let r : c.from_residual.result ≡ Err c.in_err-room.field-0.0 = search rules in
+    let k = no_room (room_of (length c.args.words.now)) c.room_of.ensures c.in_err-room.was in
+    r ∙ ap Err k.0 ∙ others_find c.args.words.now (room_of (length c.args.words.now)) c.args.used c.args.file c.args.size c.args.claim refl k.1
 
-pub row_of-requires : goal.row_of-requires
-row_of-requires c = (table c.args.words.now _ c.of_words-room.ensures c.if-not-room.false).most
+pub row_of-row-requires : goal.row_of-row-requires
+row_of-row-requires c = let h = has_room (room_of (length c.args.words.now)) c.room_of.ensures c.in_ok-room.was in (table c.args.words.now _ h.0 h.1).most
 
-pub find_front-requires : goal.find_front-requires
-find_front-requires c =
-    let o = table c.args.words.now _ c.of_words-room.ensures c.if-not-room.false in omega (arith, o.most, o.records)
+pub slice_bounds-row-end : goal.slice_bounds-row-end
+slice_bounds-row-end c =
+    let h = has_room (room_of (length c.args.words.now)) c.room_of.ensures c.in_ok-room.was in
+    let o = table c.args.words.now _ h.0 h.1 in let t = c.row_of-row.type_inv in omega (arith, o.most, o.records, t)
+
+pub slice_bounds-find-end : goal.slice_bounds-find-end
+slice_bounds-find-end c =
+    let h = has_room (room_of (length c.args.words.now)) c.room_of.ensures c.in_ok-room.was in
+    let o = table c.args.words.now _ h.0 h.1 in
+    let t = c.row_of-row.type_inv in
+    sym (length-take-le c.in_ok-room.room.records c.row_of-row.result (omega (arith, o.most, o.records, t)))
 
 pub returns : goal.returns
 returns c =
     let a = c.args in
-    let o = table a.words.now _ c.of_words-room.ensures c.if-not-room.false in
-    front_find a.words.now _ c.row_of.result a.used a.file a.size a.claim o c.row_of.ensures c.find_front.ensures
+    let h = has_room (room_of (length a.words.now)) c.room_of.ensures c.in_ok-room.was in
+    let o = table a.words.now _ h.0 h.1 in
+    front_find a.words.now _ c.row_of-row.result a.used a.file a.size a.claim o c.row_of-row.ensures c.find.ensures

@@ -10,8 +10,8 @@ pub loop-i-preserved : goal.loop-i-preserved
 loop-i-preserved c =
     let l = c.loop-i in
     let stored = put_so l.words l.i _ (omega (arith, l.invariant)) c.put_tail.ensures in
-    let turned = put_on l.words c.put_tail.new.words c.args.row l.i stored refl (omega arith) (omega (arith, l.invariant)) (omega arith) l.invariant.copied in
-    record { within = omega arith; long = turned.0 ∙ l.invariant.long; copied = turned.1 }
+    let turned = put_on l.words c.put_tail.new.words c.args.row.now l.i stored refl (omega arith) (omega (arith, l.invariant)) (omega arith) l.invariant.copied in
+    record { long = turned.0 ∙ l.invariant.long; copied = turned.1 }
 
 pub returns : goal.returns
 returns c =
@@ -20,4 +20,4 @@ returns c =
     let n : l.i ≡ length c.args.words.now / 3 = omega (arith, l.invariant) in
     let m : length (tails_of l.words) ≡ l.i = omega (arith, r, n, l.invariant) in
     sym (words_back l.words (omega (arith, l.invariant)))
-    ∙ ap words_of (sym (all_taken (tails_of l.words)) ∙ ap (λ (k : ℕ). take k (tails_of l.words)) m ∙ l.invariant.copied ∙ ap (λ (k : ℕ). take k c.args.row) n)
+    ∙ ap words_of (sym (all_taken (tails_of l.words)) ∙ ap (λ (k : ℕ). take k (tails_of l.words)) m ∙ l.invariant.copied ∙ ap (λ (k : ℕ). take k c.args.row.now) n)

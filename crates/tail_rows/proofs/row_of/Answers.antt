@@ -13,7 +13,6 @@ loop-i-preserved c =
     let w = c.args.words.now in
     let r = records w in
     record {
-      within = omega arith;
       long = length-set l.row l.i c.tail_at.result ∙ l.invariant.long;
       copied = copied_on l.row (tails_of w) l.i c.tail_at.ensures (omega (arith, l.invariant)) (omega (arith, r, l.invariant)) l.invariant.copied;
     }
