@@ -16,6 +16,7 @@ pub fn fill(bytes: &mut [u8], named: Seeded)
     ensures { bytes.new ≡ payload_over named.count named.seed bytes.old }
 {
     let mut value = (named.seed % 251) as u8;
+    // A range, not `iter_mut().take(n)`: once such a borrow is over, a proof knows nothing of the elements; the same below.
     for i in 0..named.count.min(bytes.len()) {
         bytes[i] = value;
         value = (value + 1) % 251;
