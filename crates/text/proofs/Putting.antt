@@ -6,7 +6,7 @@ use native.Mathlib.Numerals.{add-one}
 use lib.ListN.{length, drop, get_or}
 use lib.Seq.{drop-cons}
 use Rattle.text.specs.Writing.{Page, page, put_byte, put_all}
-use Rattle.numbers.proofs.Lists.{drop_past}
+use Rattle.std.proofs.lemmas.List.{drop_all}
 
 pub put_both : (p : Page) (s t : List ℕ) → put_all p (s ++ t) ≡ put_all (put_all p s) t
 unfolding put_all
@@ -28,7 +28,7 @@ module _ (p : Page) (text : List ℕ) (i : ℕ) where
 
   pub put_end : length text ≤ i → put_all p (drop i text) ≡ p
   unfolding put_all
-  put_end h = ap (put_all p) (drop_past i text h)
+  put_end h = ap (put_all p) (drop_all i text h)
 
 -- a promise of the form page l n ≡ d says all bytes of the buffer, and the count
 pub one_page : (d : Page) {l m : List ℕ} {j k : ℕ} → page l j ≡ d → page m k ≡ d → (l ≡ m) × (j ≡ k)
