@@ -185,9 +185,9 @@ fn tailing(key: u8, n: Numbers) -> Tailing {
     }
 }
 
-// The command of a key, which is the byte before its template (script), with its numbers; a key of no template is Bad. Numbers are in
-// their ranges by the template, but for those that go by the area, and the number of a ticket of kind 0: these are judged here. So
-// every number of a command is in its range, by the code; no contract says so.
+// The command of a key, with its numbers; a key of no template is Bad. A key is no enum: it is the byte before its template in a
+// text (script). Numbers are in their ranges by the template, but for those that go by the area, and the number of a ticket of kind 0:
+// these are judged here. So every number of a command is in its range, by the code; no contract says so.
 pub fn of_key(key: u8, n: Numbers) -> Command {
     match key {
         b'.' => Command::Show,

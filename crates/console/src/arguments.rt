@@ -1,5 +1,4 @@
 // What a program is asked by its arguments.
-use numbers::Read;
 use std::env::FillError;
 use std::rt::Env;
 use text::front;
@@ -28,7 +27,7 @@ pub fn asks_for_help(rt: &impl Env) -> bool {
 // The decimal number that a word is.
 fn number_of(word: &[u8]) -> Result<u64, NoNumber> {
     match numbers::number(word, 0, u64::MAX) {
-        Read::Number { value, next } if next == word.len() => Ok(value),
+        Some(read) if read.next == word.len() => Ok(read.value),
         _ => Err(NoNumber),
     }
 }

@@ -33,7 +33,7 @@ pub enum Area {
 }
 
 impl Area {
-    // The area whose letter stands at this place in `acrxtlgsf`.
+    // The area whose letter stands at this place in `acrxtlgsf`. A number, not a byte: a line gives its numbers in a row, of any kind.
     pub fn at(place: u64) -> Area
         ensures { result ≡ area_at place }
     {

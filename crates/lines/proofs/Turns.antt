@@ -7,7 +7,7 @@ use native.Mathlib.Numerals.{add-one}
 use lib.Dec.{eqb}
 use lib.ListN.{length, drop, get_or}
 use lib.Seq.{drop-cons}
-use Rattle.numbers.proofs.Lists.{drop_past}
+use Rattle.std.proofs.lemmas.List.{drop_all}
 use Rattle.text.specs.declared.Page.{Page}
 use Rattle.text.specs.Writing.{newline_byte, put_byte, put_all, decimal_of}
 use Rattle.text.proofs.Putting.{put_both}
@@ -24,7 +24,7 @@ module _ (p : Page) (due : Bool) (numbers : List ℕ) (i : ℕ) where
 
   pub number_end : length numbers ≤ i → put_all p (numbers_text due (drop i numbers)) ≡ p
   unfolding numbers_text put_all
-  number_end h = ap (λ (l : List ℕ). put_all p (numbers_text due l)) (drop_past i numbers h)
+  number_end h = ap (λ (l : List ℕ). put_all p (numbers_text due l)) (drop_all i numbers h)
 
 -- a whole line: the word, the numbers and the newline
 pub line : (p : Page) (word numbers : List ℕ) {q r s : Page} → q ≡ put_all p word

@@ -9,7 +9,7 @@ use borrow.Author.Tests.{eq-eqb, ne_eqb, le-leb, lt-leb}
 use Rattle.choice.specs.Pick.{pick, ◌and◌}
 use Rattle.choice.proofs.Picks.{yes, no}
 use Rattle.choice.proofs.Tests.{test}
-use Rattle.numbers.proofs.Lists.{drop_past}
+use Rattle.std.proofs.lemmas.List.{drop_all}
 use Rattle.numbers.specs.Reading.{number_at}
 use Rattle.text.specs.Writing.{newline_byte}
 use Rattle.matching.specs.declared.Taken.{Taken}
@@ -57,7 +57,7 @@ module _ (line : List ℕ) (at mark : ℕ) where
 module _ (line template : List ℕ) (n : Numbers) (at i : ℕ) where
   pub fit_end : length template ≤ i → fits_from line n at (drop i template) ≡ None
   unfolding fits_from
-  fit_end h = ap (fits_from line n at) (drop_past i template h)
+  fit_end h = ap (fits_from line n at) (drop_all i template h)
 
   module _ (h : i < length template) where
     pub fit-newline : get_or template i 0 ≡ newline_byte → fits_from line n at (drop i template) ≡ then_some (eqb at (length line)) n.row

@@ -5,7 +5,7 @@ use Rattle.std.specs.Char.{is_ascii_digit}
 use Rattle.choice.specs.Pick.{◌and◌}
 use Rattle.choice.proofs.Picks.{yes, no}
 use Rattle.choice.proofs.Tests.{test}
-use Rattle.numbers.proofs.Lists.{drop_past}
+use Rattle.std.proofs.lemmas.List.{drop_all}
 use Rattle.numbers.specs.Reading.{zero_byte, is_digit, with_digit, grown, ended, number_from, number_at}
 
 -- the library's test of a digit is the definition's
@@ -38,7 +38,7 @@ module _ (most value : ℕ) (seen : Bool) (i : ℕ) (line : List ℕ) where
       → ended (ltb from (length line)) value (length line) ≡ number_from most value seen i (drop i line)
   unfolding number_from
   at_end {from} s h k l =
-      rw (drop_past i line h, s)
+      rw (drop_all i line h, s)
       (test (ltb from (length line))
       (λ e. let short = ltb-true _ _ e in let same : i ≡ length line = omega arith in rw same)
       (λ e. let long = ltb-false _ _ e in let none : ltb from i ≡ false = rw (l long) (le-ltb _ _ (le_refl from)) in rw (e, none)))

@@ -25,6 +25,7 @@ pub fn number(line: &[u8], from: usize, most: u64) -> Option<Read>
     ensures { result ≡ number_at line.now from most }
 {
     let mut value = 0;
+    // A range of places, not an iterator: the answer has the place where the number ends.
     for i in from..line.len() {
         let byte = line[i];
         if !byte.is_ascii_digit() {

@@ -2,7 +2,7 @@
 // left out.
 #![tactic(auto)]
 
-ghost use Rattle.std.specs.Prelude.{◌≡◌, ◌+◌, ◌%◌, ◌<◌, take};
+ghost use Rattle.std.specs.Prelude.{◌≡◌, take};
 ghost use Rattle.seeds.specs.Seeds.{payload_over, words_over};
 
 use text::front;
@@ -13,26 +13,15 @@ pub struct Seeded {
     pub seed: u64,
 }
 
-// The byte of a payload after this one.
-fn next(value: u8) -> u8
-    ensures { value < 251 → result ≡ (value + 1) % 251 }
-{
-    if value < 250 { value + 1 } else { 0 }
-}
-
 // The start of `bytes` becomes a payload: byte i is (seed + i) mod 251.
 pub fn fill(bytes: &mut [u8], named: Seeded)
     ensures { bytes.new ≡ payload_over named.count named.seed bytes.old }
 {
     let mut value = (named.seed % 251) as u8;
-    let mut i = 0;
-    while i < bytes.len() {
-        if named.count <= i {
-            return;
-        }
+    // A range, not `iter_mut().take(n)`: once such a borrow is over, a proof knows nothing of the elements; the same below.
+    for i in 0..named.count.min(bytes.len()) {
         bytes[i] = value;
-        value = next(value);
-        i += 1;
+        value = (value + 1) % 251;
     }
 }
 
@@ -40,13 +29,8 @@ pub fn fill(bytes: &mut [u8], named: Seeded)
 fn fill_words(words: &mut [u64], named: Seeded)
     ensures { words.new ≡ words_over named.count named.seed words.old }
 {
-    let mut i = 0;
-    while i < words.len() {
-        if named.count <= i {
-            return;
-        }
-        words[i] = std::num::wrapping_add_u64(named.seed, i as u64);
-        i += 1;
+    for i in 0..named.count.min(words.len()) {
+        words[i] = named.seed.wrapping_add(i as u64);
     }
 }
 

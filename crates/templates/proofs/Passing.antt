@@ -4,7 +4,7 @@ use Rattle.std.specs.List.{position_or_len}
 use borrow.Author.Tests.{ltb-true, ltb-false}
 use Rattle.choice.specs.Pick.{pick}
 use Rattle.choice.proofs.Tests.{test}
-use Rattle.numbers.proofs.Lists.{drop_past}
+use Rattle.std.proofs.lemmas.List.{drop_all}
 use Rattle.matching.specs.Templates.{fits_at}
 use Rattle.templates.specs.Finding.{after_line, found, first_from}
 
@@ -29,7 +29,7 @@ after_none l h =
     (λ e.
     let t = ltb-false _ _ e in
     let past : length l ≤ suc (position_or_len (λ b. b == 10) l) = omega arith in
-    sym (drop_past _ l past) ∙ after l)
+    sym (drop_all _ l past) ∙ after l)
 
 -- a template that does not fit is passed over
 passed : (line l : List ℕ) → first_from line false (after_line l) ≡ first_from line true l

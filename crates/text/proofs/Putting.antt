@@ -10,9 +10,9 @@ use lib.ListN.{length, drop, get_or}
 use Rattle.choice.specs.Pick.{pick}
 use Rattle.choice.proofs.Picks.{each}
 use lib.Seq.{drop-cons}
+use Rattle.std.proofs.lemmas.List.{drop_all}
 use Rattle.text.specs.declared.Page.{Page}
 use Rattle.text.specs.Writing.{page, put_byte, put_all}
-use Rattle.numbers.proofs.Lists.{drop_past}
 
 pub put_both : (p : Page) (s t : List ℕ) → put_all p (s ++ t) ≡ put_all (put_all p s) t
 unfolding put_all
@@ -34,7 +34,7 @@ module _ (p : Page) (text : List ℕ) (i : ℕ) where
 
   pub put_end : length text ≤ i → put_all p (drop i text) ≡ p
   unfolding put_all
-  put_end h = ap (put_all p) (drop_past i text h)
+  put_end h = ap (put_all p) (drop_all i text h)
 
 -- for whoever lends the bytes: a page stays the same loan, and what is put does not go by the loan's name
 abbrev pub under : GName → Page → Page
