@@ -1,5 +1,5 @@
 -- `tails::move_offset` meets its contract. Assumes nothing.
-use Rattle.std.proofs.Common.{◌≡◌, Ok, Err, sym, ◌∙◌, ap, rules}
+use Rattle.std.proofs.Common.{◌≡◌, Err, sym, ◌∙◌, ap, rules}
 use Rattle.bars.specs.Bars.{verdict}
 use Rattle.tail_answers.specs.TailAnswers.{Verdict}
 use Rattle.tail_table.specs.Table.{file_of, used_of, moved_to, over_first}

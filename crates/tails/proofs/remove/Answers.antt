@@ -1,5 +1,5 @@
 -- `tails::remove` meets its contract. Assumes nothing.
-use Rattle.std.proofs.Common.{◌≡◌, ℕ, ◌-◌, Result, Ok, Err, [], ◌∷◌, ◌++◌, refl, sym, ◌∙◌, ap, arith, rules}
+use Rattle.std.proofs.Common.{◌≡◌, ℕ, ◌-◌, Result, Err, [], ◌∷◌, ◌++◌, refl, sym, ◌∙◌, ap, arith, rules}
 use Rattle.bars.specs.Bars.{verdict}
 use Rattle.tail_answers.specs.declared.TailRefusal.{TailRefusal}
 use Rattle.tail_table.specs.Table.{used_of, without, over_first, zeroes}
