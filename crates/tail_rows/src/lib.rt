@@ -29,6 +29,7 @@ fn row_of(words: &[u64]) -> [Tail; MOST_RECORDS]
     ensures { take (length words.now / 3) result ≡ tails_of words.now }
 {
     let mut row = [NO_RECORD; MOST_RECORDS];
+    // An index, not an iterator, here and in `put_back`: among words a record has a place, and no reference.
     for i in 0..words.len() / WIDTH {
         row[i] = tails::tail_at(words, i);
     }

@@ -1,6 +1,6 @@
 -- Document 02, request 2: "a lent table of tail records", as flat words and as records; its order, and what is done to its records.
 -- Assumes nothing.
-use Rattle.std.specs.Prelude.{ℕ, ◌+◌, ◌*◌, ◌%◌, Bool, true, false, not, List, [], ◌∷◌, ◌++◌, eqb, ltb, length, set, take, drop}
+use Rattle.std.specs.Prelude.{ℕ, ◌*◌, ◌%◌, Bool, true, false, not, List, [], ◌∷◌, ◌++◌, eqb, ltb, length, set, take, drop}
 use Rattle.choice.specs.Pick.{pick, ◌and◌, ◌or◌}
 use Rattle.tail_table.specs.declared.Tail.{Tail}
 use Rattle.tail_table.specs.declared.File.{File}

@@ -81,6 +81,7 @@ impl Tail {
 }
 
 impl Room {
+    // Two constructors: words can be left over behind the last record, and structs can't.
     pub fn of_words(n: usize) -> Room
         ensures { result ≡ room_of n }
     {

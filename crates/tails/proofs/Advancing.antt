@@ -1,9 +1,10 @@
 -- Moving by what is seen: its verdict is the definition's, and where it is done one word is written. Assumes nothing.
 use Prim.Native.Nat.{ℕ, ◌+◌, ◌*◌, ◌<◌}
-use mathlib.Core.Path.{◌≡◌, ◌∙◌, ap}
+use mathlib.Core.Path.{◌≡◌, sym, ◌∙◌, ap}
 use mathlib.Core.List.{List}
 use native.Mathlib.Omega.{arith}
 use lib.ListN.{length, get_or, set}
+use Rattle.std.specs.Prelude.{Ok}
 use Rattle.bars.specs.Bars.{verdict}
 use Rattle.tail_answers.specs.TailAnswers.{Verdict}
 use Rattle.tail_table.specs.Table.{tails_of, words_of, file_of, used_of, moved_to, over_first, with_offset, zeroes}
@@ -17,7 +18,7 @@ use Rattle.tail_table.specs.declared.Sweep.{Sweep}
 use Rattle.tail_sweeps.proofs.Words.{records, offset_there}
 use Rattle.tail_sweeps.proofs.Deciding.{seen, used_long}
 use Rattle.tail_sweeps.proofs.Placing.{place_inside}
-use Rattle.tail_sweeps.proofs.Moving.{moving, Movable, moved_so}
+use Rattle.tail_sweeps.proofs.Moving.{moving, Movable, movable, moved_so}
 
 module _ (words : List ℕ) (used : ℕ) (t : Tail) (c : Claim) where
   -- the code's verdict v, by the room and the sweep that it has, is the definition's
@@ -27,6 +28,9 @@ module _ (words : List ℕ) (used : ℕ) (t : Tail) (c : Claim) where
       ∙ ap (λ (s : Sweep). move_by room used s t.offset c) (r ∙ ap (seen words used) q)
       ∙ ap (λ (x : Room). move_by x used (seen words used (file_of t)) t.offset c) p
       ∙ moving words used t c
+
+  pub moved : {v : Verdict} {room : Room} {s : Sweep} {f : File} → room ≡ room_of (length words) → f ≡ file_of t → s ≡ seen words used f → v ≡ move_by room used s t.offset c → v ≡ Ok tt → Movable words used t c
+  moved p q r e h = movable words used t c (sym (moving_by p q r e) ∙ h)
 
   -- the offset of the pair's record is one of the words
   pub in_words : (place : ℕ) → Movable words used t c → place ≡ place_of (used_of words used) (file_of t) → place * 3 + 2 < length words

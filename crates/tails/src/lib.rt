@@ -84,6 +84,7 @@ fn put_in(words: &mut [u64], used: usize, t: Tail)
 {
     let place = place_of(words, used, t.file());
     let mut carried = t;
+    // Record by record, here and in `take_out`: the definitions speak of records, and copy_within would move words.
     for i in place..used {
         let next = tail_at(words, i);
         put_tail(words, i, carried);

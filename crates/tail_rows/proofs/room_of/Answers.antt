@@ -1,5 +1,5 @@
 -- `tail_rows::room_of` meets its contract. Assumes nothing.
-use Rattle.std.proofs.Common.{◌≡◌, not, Ok, refl, sym, ap, ◌∙◌}
+use Rattle.std.proofs.Common.{not, Ok, refl, sym, ap, ◌∙◌}
 use Rattle.choice.proofs.Picks.{yes, no}
 use Rattle.tail_table.specs.declared.Room.{Room}
 use Rattle.tail_rows.proofs.room_of.Goals as goal

@@ -1,6 +1,6 @@
 -- `tail_structs::scan` meets its contract: a turn is one step of the sweep, and at the loop's end all that are looked at are seen.
 -- Assumes nothing.
-use Rattle.std.proofs.Common.{◌≡◌, ℕ, List, length, take, refl, ap, sym, ◌∙◌, arith}
+use Rattle.std.proofs.Common.{ℕ, List, length, take, refl, ap, sym, ◌∙◌, arith}
 use lib.Seq.{length-take-le, take_all}
 use Rattle.tail_table.specs.Sweeping.{reach_of, swept}
 use Rattle.tail_table.specs.declared.Room.{Room}

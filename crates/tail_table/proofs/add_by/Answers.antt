@@ -1,5 +1,5 @@
 -- `tail_table::add_by` meets its contract. Assumes nothing.
-use Rattle.std.proofs.Common.{◌≡◌, leb, Err, [], ◌∷◌, ◌++◌, ◌∙◌, rules}
+use Rattle.std.proofs.Common.{◌≡◌, leb, Err, [], ◌∷◌, ◌∙◌, rules}
 use Rattle.bars.specs.Bars.{◌whenever◌}
 use Rattle.bars.proofs.Verdicts.{refused_in, let_by}
 use Rattle.tail_answers.specs.declared.TailRefusal.TheVariants.{Present, Full}

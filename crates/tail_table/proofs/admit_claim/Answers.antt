@@ -1,8 +1,5 @@
 -- `tail_table::admit_claim` meets its contract: a return for each answer of the transaction's check. Assumes nothing.
-use Rattle.std.proofs.Common.{◌≡◌, not, Err, ◌∙◌, rules}
-use Rattle.wholeness.specs.Whole.{whole}
-use Rattle.step_stamps.specs.Stamping.{passes}
-use Rattle.tail_table.specs.Sweeping.{unsound_by}
+use Rattle.std.proofs.Common.{◌≡◌, Err, ◌∙◌, rules}
 use Rattle.tail_table.proofs.Claims.{turned_back, checks, at_stamp, at_record}
 use Rattle.tail_table.proofs.admit_claim.Goals as goal
 

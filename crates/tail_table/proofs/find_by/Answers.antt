@@ -1,5 +1,5 @@
 -- `tail_table::find_by` meets its contract. Assumes nothing.
-use Rattle.std.proofs.Common.{◌≡◌, Result, Ok, refl, sym, ◌∙◌, ap}
+use Rattle.std.proofs.Common.{◌≡◌, Ok, refl, sym, ◌∙◌, ap}
 use borrow.Author.Tests.{lt-ltb, le-ltb}
 use Rattle.choice.proofs.Picks.{yes, no}
 use Rattle.tail_answers.specs.TailAnswers.{Verdict}

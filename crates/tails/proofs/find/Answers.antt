@@ -9,9 +9,8 @@ use Rattle.tails.proofs.find.Goals as goal
 
 pub returns : goal.returns
 returns c =
-    let r = c in
-    let a = r.args in
+    let a = c.args in
     c.find_by.ensures
-    ∙ ap (λ (x : Room). find_by x a.used r.sweep-s.result a.size a.claim) r.of_words.ensures
-    ∙ ap (λ (s : Sweep). find_by (room_of (length a.words.now)) a.used s a.size a.claim) r.sweep-s.ensures
+    ∙ ap (λ (x : Room). find_by x a.used c.sweep-s.result a.size a.claim) c.of_words.ensures
+    ∙ ap (λ (s : Sweep). find_by (room_of (length a.words.now)) a.used s a.size a.claim) c.sweep-s.ensures
     ∙ find_so a.words.now a.used a.file a.size a.claim

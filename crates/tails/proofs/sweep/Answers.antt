@@ -1,6 +1,5 @@
 -- `tails::sweep` meets its contract: after i records the sweep is that of the first i. Assumes nothing.
-use Prim.Native.Nat.{◌≤◌, ◌/◌}
-use mathlib.Core.Path.{sym, ◌∙◌, ap, subst}
+use mathlib.Core.Path.{◌∙◌, ap}
 use native.Mathlib.Omega.{arith}
 use lib.ListN.{length}
 use Rattle.tail_table.specs.Table.{tails_of}
