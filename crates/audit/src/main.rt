@@ -7,10 +7,10 @@ mod beginnings;
 use anyhow::Result;
 use beginnings::{CHUNK, audit_all, put_end};
 use log_files::{Given, Loaded, WORDS, Words};
-use printing::front;
 use replays::Ending;
 use std::io;
 use std::rt::{Env, Files};
+use text::{Page, front};
 
 fn print_usage(rt: &impl Eprint) -> io::Result<()> {
     rt.eprint(
@@ -26,15 +26,16 @@ the plain engine is asked about the first 0, 1, 2 .. events.
 fn audit_file(rt: &(impl Env + Files + Print + Eprint), given: Given) -> Result<()> {
     let mut words = [0u64; WORDS];
     let mut buffer = [0u8; CHUNK];
+    let mut page = Page::new(&mut buffer);
     let mut output = io::writer(rt);
     match log_files::load(rt, "audit", given, &mut words)? {
         Loaded::Words(count) => audit_all(
             &mut output,
             given.opening,
             front(&words, count),
-            &mut buffer,
+            &mut page,
         ),
-        Loaded::Refused(why) => put_end(&mut output, &mut buffer, 0, Ending::Refused(why), 0),
+        Loaded::Refused(why) => put_end(&mut output, &mut page, Ending::Refused(why), 0),
         Loaded::Unreadable => Ok(print_usage(rt)?),
     }
 }
