@@ -1,6 +1,6 @@
 -- One turn of a loop that puts the elements of a seed, and its two ends: what stands before a place is as it is to be, and what is left of
 -- the list is still to be seeded. Assumes nothing.
-use Rattle.std.proofs.Common.{◌≡◌, ℕ, zero, suc, ◌+◌, ◌-◌, ◌%◌, ◌<◌, ◌≤◌, List, [], ◌++◌, length, take, drop, set, refl, ap, ◌∙◌, append-nil, le_refl, add-one, arith, take-append-drop, take_all, drop-cons, take-suc-set, drop-set-lt}
+use Rattle.std.proofs.Common.{◌≡◌, ℕ, zero, suc, ◌+◌, ◌-◌, ◌%◌, ◌<◌, ◌≤◌, List, [], ◌++◌, length, take, drop, set, refl, append-nil, le_refl, add-one, arith, take-append-drop, take_all, drop-cons, take-suc-set, drop-set-lt}
 use lib.Seq.{append_snoc}
 use Rattle.numbers.proofs.Lists.{drop_past}
 use Rattle.seeds.specs.Seeds.{seeded_over}
