@@ -8,9 +8,9 @@ use anyhow::Result;
 use beginnings::{CHUNK, audit_all, put_end};
 use input_events::Fault;
 use log_files::{Given, LoadError, WORDS};
-use printing::front;
 use std::io;
 use std::rt::{Env, Files};
+use text::{Page, front};
 
 const NAME: &str = "audit";
 
@@ -24,17 +24,16 @@ the plain engine is asked about the first 0, 1, 2 .. events.
 fn audit_file(rt: &(impl Env + Files + Print + Eprint), given: Given) -> Result<()> {
     let mut words = [0u64; WORDS];
     let mut buffer = [0u8; CHUNK];
+    let mut page = Page::new(&mut buffer);
     let mut output = io::writer(rt);
     match log_files::load(rt, NAME, given, &mut words) {
         Ok(count) => audit_all(
             &mut output,
             given.opening,
             front(&words, count),
-            &mut buffer,
+            &mut page,
         ),
-        Err(LoadError::Refused(why)) => {
-            put_end(&mut output, &mut buffer, 0, Err(Fault::Refused(why)), 0)
-        }
+        Err(LoadError::Refused(why)) => put_end(&mut output, &mut page, Err(Fault::Refused(why)), 0),
         Err(LoadError::Unreadable) => Ok(rt.eprint(USAGE)?),
         Err(LoadError::Untold(why)) => Err(why.into()),
     }

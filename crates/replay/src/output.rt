@@ -1,4 +1,4 @@
-// What the program writes: lines of events, the last two lines, by way of a buffer of which the first `written` bytes wait.
+// What the program writes: lines of events, the last two lines, by way of a page on which they wait.
 use anyhow::{Context, Result};
 use console::flush_before;
 use event_lines::{put_ended, put_event};
@@ -7,6 +7,7 @@ use printing::put_record;
 use record::Record;
 use replays::Ending;
 use std::io::Write;
+use text::Page;
 
 // More bytes than the longest line has, and room for the last two.
 const LINE: usize = 500;
@@ -17,8 +18,8 @@ pub(crate) const LAST_LINES: usize = 4096;
 pub(crate) const CHUNK: usize = 65536;
 
 // Writes out what waits where this is due, and where there may be no room for a line more.
-fn write_on(output: &mut impl Write, buffer: &[u8], written: usize, due: bool) -> Result<usize> {
-    flush_before(output, due, buffer, written, LINE).context("replay: standard output")
+fn write_on(output: &mut impl Write, page: &mut Page, due: bool) -> Result<()> {
+    flush_before(output, due, page, LINE).context("replay: standard output")
 }
 
 // The line of an event, where it has an answer.
@@ -27,15 +28,13 @@ fn put_line(
     words: &[u64],
     answers: &[u64],
     number: usize,
-    buffer: &mut [u8],
-    written: usize,
-) -> Result<usize> {
-    if answers.len() <= number {
-        return Ok(written);
+    page: &mut Page,
+) -> Result<()> {
+    if let Some(answer) = answers.get(number) {
+        write_on(output, page, false)?;
+        put_event(page, number as u64, event_at(words, number).kind, *answer);
     }
-    let e = event_at(words, number);
-    let waiting = write_on(output, buffer, written, false)?;
-    Ok(put_event(buffer, waiting, number as u64, e.kind, answers[number]))
+    Ok(())
 }
 
 // A line for each event of a portion, in order.
@@ -45,28 +44,24 @@ pub(crate) fn put_events(
     answers: &[u64],
     from: usize,
     to: usize,
-    buffer: &mut [u8],
-    written: usize,
-) -> Result<usize> {
-    let mut waiting = written;
+    page: &mut Page,
+) -> Result<()> {
     for i in from..to {
-        waiting = put_line(output, words, answers, i, buffer, waiting)?;
+        put_line(output, words, answers, i, page)?;
     }
-    Ok(waiting)
+    Ok(())
 }
 
 // The last two lines: how it ended, and the record.
 pub(crate) fn put_end(
     output: &mut impl Write,
-    buffer: &mut [u8],
-    written: usize,
+    page: &mut Page,
     ending: Ending,
     ran: usize,
     record: Record,
 ) -> Result<()> {
-    let waiting = write_on(output, buffer, written, false)?;
-    let ended = put_ended(buffer, waiting, ending, ran as u64);
-    let all = put_record(buffer, ended, record);
-    write_on(output, buffer, all, true)?;
-    Ok(())
+    write_on(output, page, false)?;
+    put_ended(page, ending, ran as u64);
+    put_record(page, record);
+    write_on(output, page, true)
 }

@@ -1,4 +1,4 @@
--- What is written to a buffer of which the first bytes are in use: bytes, texts, and numbers in decimal. Assumes nothing.
+-- What is put on a page, which is lent bytes of which the first are in use: bytes, texts, and numbers in decimal. Assumes nothing.
 use Rattle.std.specs.Prelude.{ℕ, zero, suc, ◌+◌, ◌/◌, ◌%◌, List, [], ◌∷◌, ◌++◌, ltb, length, set}
 use Prim.Native.Char.{code}
 use Prim.Native.String.{String, [] as endOfText, ◌∷◌ as ◌⁏◌}

@@ -15,7 +15,7 @@ pub fn front<T>(items: &[T], n: usize) -> &[T]
     items
 }
 
-// Lent bytes, and how many of them are in use.
+// Lent bytes, and how many of them are in use. No `fmt::Write`: that fails where there is no room, and here all that has room is put.
 #[derive(Drop)]
 pub struct Page<'a> {
     bytes: &'a mut [u8],
