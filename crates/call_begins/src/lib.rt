@@ -1,4 +1,4 @@
-// Beginning a transaction of either kind, with what is lent.
+// Beginning a transaction of either kind, with what is lent: a name for each, as document 01 has it, over the one function with a flag.
 #![tactic(auto)]
 
 ghost use Rattle.std.specs.Prelude.{◌≡◌, ◌∷◌, [], true, false};

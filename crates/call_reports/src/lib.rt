@@ -1,7 +1,8 @@
-// The reports of an update and of an undoing, each with the payload that it stores.
+// The reports of an update and of an undoing, each with the payload that it stores. Two functions, not a generic one: they have in common
+// only their calls of `Findings::of` and `moves::store`; step and place differ.
 #![tactic(auto)]
 
-ghost use Rattle.std.specs.Prelude.{◌≡◌, ◌∷◌, [], ◌-◌};
+ghost use Rattle.std.specs.Prelude.{◌≡◌, ◌∷◌, []};
 ghost use Rattle.record.specs.Answers.{tells};
 ghost use Rattle.record.specs.Leaves.{leaves};
 ghost use Rattle.calls.specs.Lending.{leaves_of};
@@ -20,13 +21,6 @@ pub fn report_update(r: Record, given: Reporting, table: &mut [u64], payload: u6
     moves::store(stepped, table, r.applied, payload)
 }
 
-// The number of the last of so many actions.
-fn last(entries: u32) -> u32
-    ensures { result ≡ entries - 1 }
-{
-    if entries == 0 { 0 } else { entries - 1 }
-}
-
 // A report of an undoing, with the payload of the last action.
 pub fn report_rollback(r: Record, given: Reporting, table: &mut [u64], payload: u64) -> Stepped
     ensures { leaves (tells result) (table.new ∷ [])
@@ -34,5 +28,5 @@ pub fn report_rollback(r: Record, given: Reporting, table: &mut [u64], payload: 
 {
     let found = Findings::of(batch::is_sized(table.len()));
     let stepped = step_undos::report_rollback(r, found, given);
-    moves::store(stepped, table, last(r.entries), payload)
+    moves::store(stepped, table, r.entries.saturating_sub(1), payload)
 }

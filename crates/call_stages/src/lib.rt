@@ -11,6 +11,7 @@ use record::{Beginning, Findings, Record, Stepped};
 
 // Stages a candidate payload (`new`), a recovery payload (`old`) and the pairs of a batch, for a structural transaction or an
 // update-only one.
+// Areas and payloads are parameters, not a struct: callers keep them in different places, and would make it for this call alone.
 pub fn begin_as(
     structural: bool,
     r: Record,

@@ -3,7 +3,4 @@ use Rattle.moves.proofs.Sizes.{crossed}
 use Rattle.call_ends.proofs.commit.Goals as goal
 
 pub returns : goal.returns
-returns c =
-    let s = c in
-    crossed _ _ _ _ c.exchange.ensures s.commit-stepped.ensures s.of-found.ensures
-    s.is_sized.ensures s.is_sized-2.ensures
+returns c = search crossed

@@ -4,7 +4,4 @@ use Rattle.call_reports.proofs.report_rollback.Goals as goal
 
 pub returns : goal.returns
 returns c =
-    let k = c in
-    let s = k in
-    by-table _ _ _ _ _ (rw k.last.ensures at k.store.ensures) s.report_rollback-stepped.ensures
-    s.of-found.ensures s.is_sized.ensures
+    by-table _ _ _ _ _ (rw c.saturating_sub.ensures at c.store.ensures) c.report_rollback-stepped.ensures c.of-found.ensures c.is_sized.ensures

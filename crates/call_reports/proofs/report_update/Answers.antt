@@ -3,7 +3,4 @@ use Rattle.moves.proofs.Sizes.{by-table}
 use Rattle.call_reports.proofs.report_update.Goals as goal
 
 pub returns : goal.returns
-returns c =
-    let k = c in
-    let s = k in
-    by-table _ _ _ _ _ k.store.ensures s.report_update-stepped.ensures s.of-found.ensures s.is_sized.ensures
+returns c = search by-table
