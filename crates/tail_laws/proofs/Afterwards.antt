@@ -1,7 +1,7 @@
 -- After a call that was done: what it changed is found so, and every other pair as before. Assumes nothing.
 use Prim.Native.Nat.{ℕ, ◌+◌, ◌-◌, ◌≤◌}
 use mathlib.Core.Path.{◌≡◌, ◌∙◌, ap}
-use mathlib.Core.Bool.{true, false, not}
+use mathlib.Core.Bool.{true, false}
 use mathlib.Core.List.{List, [], ◌∷◌, ◌++◌}
 use Rattle.choice.specs.Pick.{◌or◌}
 use Rattle.std.specs.Prelude.{Result, Ok}

@@ -6,8 +6,7 @@ use mathlib.Core.Bool.{Bool, true, false, not}
 use mathlib.Core.List.{List, [], ◌∷◌, ◌++◌}
 use mathlib.Core.Logic.{◌≢◌}
 use native.Mathlib.Omega.{arith}
-use lib.Dec.{ltb}
-use Rattle.choice.specs.Pick.{pick, ◌or◌}
+use Rattle.choice.specs.Pick.{◌or◌}
 use Rattle.choice.proofs.Picks.{picked}
 use Rattle.choice.proofs.Tests.{never}
 use Rattle.std.specs.Prelude.{Ok, Err}
@@ -16,8 +15,7 @@ use Rattle.tail_answers.specs.TailAnswers.{Verdict, says_verdict}
 use Rattle.tail_answers.specs.declared.TailRefusal.{TailRefusal}
 use Rattle.tail_answers.specs.declared.TailRefusal.TheVariants.{Full, Present, Backward, Absent, Unstamped}
 use Rattle.tail_answers.specs.declared.Finding.{Finding}
-use Rattle.tail_answers.specs.declared.Finding.TheVariants as F
-use Rattle.tail_table.specs.Table.{used_of, stands, saved_of, file_of, entered, without, moved_to, over_first, zeroes}
+use Rattle.tail_table.specs.Table.{used_of, file_of, entered, without, moved_to, over_first, zeroes}
 use Rattle.tail_table.specs.TailCalls.{settled, on_stamp, found, looked_up, add_row, remove_row, move_row}
 use Rattle.tail_laws.specs.TailChains.{TailTable, TailCall, verdict_of, after, after_all, answers, WholeFor, Sound}
 use Rattle.tail_laws.specs.TailChains.TailCall.{finding, adding, removing, moving}

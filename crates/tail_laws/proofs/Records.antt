@@ -1,9 +1,9 @@
 -- Records with one more, with one less, and with another offset: they are in order still, and what stands among them. Assumes nothing.
 use Prim.Native.Nat.{ℕ}
 use mathlib.Core.Path.{◌≡◌, refl, sym, ◌∙◌, ap, subst}
-use mathlib.Core.Bool.{Bool, true, false, not}
+use mathlib.Core.Bool.{Bool, true, false}
 use mathlib.Core.List.{List, [], ◌∷◌}
-use Rattle.choice.specs.Pick.{pick, ◌and◌, ◌or◌}
+use Rattle.choice.specs.Pick.{pick, ◌or◌}
 use Rattle.choice.proofs.Picks.{picked}
 use Rattle.choice.proofs.Tests.{both, either, neither, join, test, never}
 use Rattle.tail_table.specs.Table.{file_of, same, before, leads, ascending, stands, saved_of, entered, without, with_offset, moved_to}
