@@ -1,17 +1,9 @@
-// What the driver holds, and how much of it is lent. A call can be lent parts of two arrays, but not two parts of one, so the areas stand
-// on two sides: `left` holds the accepted area, the recovery area and the groups, `right` the candidate area, the exchange area and the
-// status, each side in this order. No call needs two of one side, but for recovering from the retained payload, which reads a copy.
-use commands::Command;
-use holdings::{Area, HELD_AREA, HELD_MARKS};
+// What the driver holds: the record, an array for each area, the count of used tail records, how much of each is lent, and room for the
+// payloads and the words that a line names. What a command does to it is told in the files beside this one.
+use holdings::{Area, HELD_AREA, HELD_LOG, HELD_MARKS, HELD_TABLE, HELD_TAILS};
+use record::{Opening, Record};
 use tail_table::{MOST_RECORDS, WIDTH};
 use transaction::{AREA, TABLE};
-
-// Where the second and the third of a side start, and how many bytes a side has.
-pub(crate) const SECOND: usize = HELD_AREA;
-
-pub(crate) const THIRD: usize = SECOND + HELD_AREA;
-
-pub(crate) const SIDE: usize = THIRD + HELD_MARKS;
 
 // How many bytes of the groups and of the status are lent at the start.
 const MARKS: usize = 64;
@@ -33,9 +25,34 @@ pub(crate) struct Lent {
     pub(crate) tails: usize,
 }
 
+// The candidate and the recovery payload of a line, and its words.
+#[derive(Drop)]
+pub(crate) struct Scratch {
+    pub(crate) candidate: [u8; HELD_AREA],
+    pub(crate) recovery: [u8; HELD_AREA],
+    pub(crate) pairs: [u64; HELD_TABLE],
+}
+
+#[derive(Drop)]
+pub(crate) struct Held {
+    pub(crate) record: Record,
+    pub(crate) accepted: [u8; HELD_AREA],
+    pub(crate) candidate: [u8; HELD_AREA],
+    pub(crate) recovery: [u8; HELD_AREA],
+    pub(crate) exchange: [u8; HELD_AREA],
+    pub(crate) table: [u64; HELD_TABLE],
+    pub(crate) log: [u64; HELD_LOG],
+    pub(crate) groups: [u8; HELD_MARKS],
+    pub(crate) status: [u8; HELD_MARKS],
+    pub(crate) tails: [u64; HELD_TAILS],
+    pub(crate) used: usize,
+    pub(crate) lent: Lent,
+    pub(crate) scratch: Scratch,
+}
+
 impl Lent {
     // At the start: areas and tables of the sizes that calls ask for, and no log.
-    pub(crate) fn first() -> Lent {
+    fn first() -> Lent {
         Lent {
             accepted: AREA,
             candidate: AREA,
@@ -49,11 +66,8 @@ impl Lent {
         }
     }
 
-    // What is lent after a command: the same, but for the area that it names where it is `lend`.
-    pub(crate) fn after(mut self, command: Command) -> Lent {
-        let Command::Lend { area, count } = command else {
-            return self;
-        };
+    // So many elements of an area from here on.
+    pub(crate) fn set(&mut self, area: Area, count: usize) {
         match area {
             Area::Accepted => self.accepted = count,
             Area::Candidate => self.candidate = count,
@@ -65,38 +79,38 @@ impl Lent {
             Area::Status => self.status = count,
             Area::Tails => self.tails = count,
         }
-        self
     }
 }
 
-// n bytes from a place on, or all where there are fewer.
-pub(crate) fn part(bytes: &mut [u8], from: usize, n: usize) -> &mut [u8] {
-    if bytes.len() < from {
-        return bytes;
+impl Held {
+    // Zeroes, and the record of an opening at 0, 0 with an empty payload.
+    pub(crate) fn first() -> Held {
+        Held {
+            record: transaction::would_open(true, Opening::start(), 0).state,
+            accepted: [0; HELD_AREA],
+            candidate: [0; HELD_AREA],
+            recovery: [0; HELD_AREA],
+            exchange: [0; HELD_AREA],
+            table: [0; HELD_TABLE],
+            log: [0; HELD_LOG],
+            groups: [0; HELD_MARKS],
+            status: [0; HELD_MARKS],
+            tails: [0; HELD_TAILS],
+            used: 0,
+            lent: Lent::first(),
+            scratch: Scratch {
+                candidate: [0; HELD_AREA],
+                recovery: [0; HELD_AREA],
+                pairs: [0; HELD_TABLE],
+            },
+        }
     }
-    if bytes.len() - from < n {
-        return bytes;
-    }
-    let end = from + n;
-    &mut bytes[from..end]
 }
 
-// The same, to be read.
-pub(crate) fn within(bytes: &[u8], from: usize, n: usize) -> &[u8] {
-    if bytes.len() < from {
-        return bytes;
+// The first n elements, or all where there are fewer.
+pub(crate) fn part<T>(items: &mut [T], n: usize) -> &mut [T] {
+    if n < items.len() {
+        return &mut items[..n];
     }
-    if bytes.len() - from < n {
-        return bytes;
-    }
-    let end = from + n;
-    &bytes[from..end]
-}
-
-// The first n words, or all where there are fewer.
-pub(crate) fn part_of_words(words: &mut [u64], n: usize) -> &mut [u64] {
-    if n < words.len() {
-        return &mut words[0..n];
-    }
-    words
+    items
 }

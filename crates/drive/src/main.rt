@@ -8,6 +8,7 @@ mod held;
 mod output;
 mod play;
 mod prepare;
+mod run;
 mod show;
 mod tail;
 mod telling;

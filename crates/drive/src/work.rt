@@ -1,6 +1,6 @@
 // Asking for tickets, and the reports of updates and rollbacks: where no log is lent they go to the transaction itself, and where one is
-// lent to the recorder. By the letters of a script, t is the table and l the log.
-use super::held::{Lent, part_of_words};
+// lent to the recorder.
+use super::held::{Held, part};
 use commands::{Asking, Working};
 use record::{Record, Reporting, Stepped};
 
@@ -12,62 +12,51 @@ fn ask_itself(which: Asking, record: Record) -> Stepped {
     }
 }
 
-fn ask_logged(which: Asking, record: Record, l: &mut [u64]) -> Stepped {
+fn ask_logged(which: Asking, record: Record, log: &mut [u64]) -> Stepped {
     match which {
-        Asking::Structure => recorder::ask_structure(record, l),
-        Asking::Update => recorder::ask_update(record, l),
-        Asking::Rollback => recorder::ask_rollback(record, l),
+        Asking::Structure => recorder::ask_structure(record, log),
+        Asking::Update => recorder::ask_update(record, log),
+        Asking::Rollback => recorder::ask_rollback(record, log),
     }
 }
 
-fn report(
-    undoing: bool,
-    given: Reporting,
-    payload: u64,
-    record: Record,
-    l: &mut [u64],
-    t: &mut [u64],
-) -> Stepped {
-    if l.len() == 0 {
-        if undoing {
-            transaction::report_rollback(record, given, t, payload)
-        } else {
-            transaction::report_update(record, given, t, payload)
+impl Held {
+    fn ask(&mut self, which: Asking) -> Stepped {
+        match part(&mut self.log, self.lent.log) {
+            [] => ask_itself(which, self.record),
+            log => ask_logged(which, self.record, log),
         }
-    } else if undoing {
-        recorder::report_rollback(record, given, l, t, payload)
-    } else {
-        recorder::report_update(record, given, l, t, payload)
     }
-}
 
-fn ask(which: Asking, record: Record, l: &mut [u64]) -> Stepped {
-    match l.len() {
-        0 => ask_itself(which, record),
-        _ => ask_logged(which, record, l),
+    fn report_update(&mut self, given: Reporting, payload: u64) -> Stepped {
+        let table = part(&mut self.table, self.lent.table);
+        match part(&mut self.log, self.lent.log) {
+            [] => transaction::report_update(self.record, given, table, payload),
+            log => recorder::report_update(self.record, given, log, table, payload),
+        }
     }
-}
 
-pub(crate) fn work(
-    which: Working,
-    record: Record,
-    lent: Lent,
-    l: &mut [u64],
-    t: &mut [u64],
-) -> Stepped {
-    match which {
-        Working::Ask(asked) => ask(asked, record, part_of_words(l, lent.log)),
-        Working::Report {
-            undoing,
-            given,
-            payload,
-        } => report(
-            undoing,
-            given,
-            payload,
-            record,
-            part_of_words(l, lent.log),
-            part_of_words(t, lent.table),
-        ),
+    fn report_rollback(&mut self, given: Reporting, payload: u64) -> Stepped {
+        let table = part(&mut self.table, self.lent.table);
+        match part(&mut self.log, self.lent.log) {
+            [] => transaction::report_rollback(self.record, given, table, payload),
+            log => recorder::report_rollback(self.record, given, log, table, payload),
+        }
+    }
+
+    pub(crate) fn work(&mut self, which: Working) -> Stepped {
+        match which {
+            Working::Ask(asked) => self.ask(asked),
+            Working::Report {
+                undoing: true,
+                given,
+                payload,
+            } => self.report_rollback(given, payload),
+            Working::Report {
+                undoing: false,
+                given,
+                payload,
+            } => self.report_update(given, payload),
+        }
     }
 }
