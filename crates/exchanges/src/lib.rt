@@ -1,5 +1,5 @@
 // Areas that change places, when a call is not refused: each function is handed what the call's step told, moves areas whole unless that
-// is a refusal, and hands it back.
+// is a refusal, and hands it back. There is no one function with a closure, as in `moves`.
 #![tactic(auto)]
 
 ghost use Rattle.std.specs.Prelude.{◌≡◌, ◌∷◌, []};

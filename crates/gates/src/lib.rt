@@ -9,7 +9,8 @@ use answers::Refusal;
 use bars::bar;
 use record::{Findings, Record};
 
-// The refusals that every call begins with, in their order.
+// The refusals that every call begins with, in their order. The record and what was found of all that is lent go together up to here
+// alone, and are no struct: behind this gate a step goes on with the record.
 pub fn admit(r: Record, found: Findings) -> Result<(), Refusal>
     ensures { result ≡ gate_of found.sized found.sound r }
 {

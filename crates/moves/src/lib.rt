@@ -1,5 +1,6 @@
 // What a call that is not refused puts into what it is lent: a payload, pairs, or the payload of one action. Each function is handed what
-// the call's step told, writes bytes or words unless that is a refusal, and hands it back.
+// the call's step told, writes bytes or words unless that is a refusal, and hands it back. There is no one function with a closure for what is written: its clause
+// would tell of what is lent by the closure's state, and be longer than these three.
 #![tactic(auto)]
 
 ghost use Rattle.std.specs.Prelude.{◌≡◌, ◌∷◌, []};

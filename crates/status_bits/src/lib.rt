@@ -4,7 +4,7 @@
 ghost use Rattle.std.specs.Prelude.{◌≡◌};
 ghost use Rattle.status_bits.specs.Bits.{IsBit, has, with, allowed, next};
 
-// The bits of a group byte, and the greatest one.
+// The bits of a group byte, and the greatest one. Masks, not an enum: a lent byte holds any of them together.
 pub const GROUP_LIVE: u8 = 1;
 
 pub const GROUP_SETTLED: u8 = 2;

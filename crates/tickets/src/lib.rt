@@ -45,6 +45,7 @@ impl Live {
     }
 
     // Of the works 1 to 3, whether the ticket is the live one for it. Of the work 0, whether none is live and the ticket is 0.
+    // Not `==` with a ticket: the work is a number, and every number has an answer here.
     pub fn is(self, of: u8, ticket: u64) -> bool
         ensures { result ≡ is_live of ticket self }
     {
