@@ -25,7 +25,8 @@ pub fn fill(bytes: &mut [u8], named: Seeded)
     }
 }
 
-// The start of `words` becomes the words that are named: word i is seed + i.
+// The start of `words` becomes the words that are named: word i is seed + i. A function of its own beside `fill`: a word is a sum that
+// wraps, where a byte comes from the one before it with no division.
 fn fill_words(words: &mut [u64], named: Seeded)
     ensures { words.new ≡ words_over named.count named.seed words.old }
 {
