@@ -24,7 +24,7 @@ slice_bounds-find-end c =
     let h = has_room (room_of (length c.args.words.now)) c.room_of.ensures c.in_ok-room.was in
     let o = table c.args.words.now _ h.0 h.1 in
     let t = c.row_of-row.type_inv in
-    sym (length-take-le c.in_ok-room.room.records c.row_of-row.result (omega (arith, o.most, o.records, t)))
+    sym (length-take-le _ c.row_of-row.result (omega (arith, o.most, o.records, t)))
 
 pub returns : goal.returns
 returns c =
