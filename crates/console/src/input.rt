@@ -3,23 +3,6 @@ use std::io;
 use std::io::Read;
 use text::{Page, front};
 
-// Where the reading stands: the place in the chunk, how many bytes of the chunk were read, and whether the input is at its end. A flag, no
-// `Option`: the last line may end with the input, and then nothing is read again.
-#[derive(Clone, Copy)]
-pub struct Place {
-    pub at: usize,
-    pub filled: usize,
-    pub ended: bool,
-}
-
-fn standing(at: usize, filled: usize, ended: bool) -> Place {
-    Place { at, filled, ended }
-}
-
-pub fn start() -> Place {
-    standing(0, 0, false)
-}
-
 // Puts bytes on the line's page up to a newline or the end of what was read, and answers the place behind the newline, if there was one.
 // An index, no iterator: the answer is the place where it stops.
 fn take(read: &[u8], from: usize, line: &mut Page) -> Option<usize> {
@@ -32,39 +15,61 @@ fn take(read: &[u8], from: usize, line: &mut Page) -> Option<usize> {
     None
 }
 
-// Whether the next line stands in the chunk whole, so that it is there without reading.
-pub fn holds_line(chunk: &[u8], place: Place) -> bool {
-    match front(chunk, place.filled).get(place.at..) {
-        Some(rest) => rest.contains(&b'\n'),
-        None => false,
-    }
+// The chunk, how many of its bytes were read, the place in them, and whether the input is at its end. A flag, no `Option`: the last line may
+// end with the input, and then nothing is read again.
+#[derive(Drop)]
+pub struct Reading<'a> {
+    pub(crate) chunk: &'a mut [u8],
+    pub(crate) filled: usize,
+    pub(crate) at: usize,
+    pub(crate) ended: bool,
 }
 
-// Reads the chunk anew, and answers how many bytes came: none at the end of the input.
-fn refill(input: &mut impl Read, chunk: &mut [u8]) -> io::Result<usize> {
-    input.read(chunk)
-}
-
-// The next line, without its newline, becomes what is on its page. Where the input ends before any byte of it, the page is empty and `ended`
-// holds. Nothing says that an input ends, and a proved loop has to: its turns are counted, up to a number that no run uses up.
-pub fn next_line(
-    input: &mut impl Read,
-    chunk: &mut [u8],
-    line: &mut Page,
-    place: Place,
-) -> io::Result<Place> {
-    line.clear();
-    let mut at = place.at;
-    let mut filled = place.filled;
-    for _ in 0..u64::MAX {
-        if let Some(next) = take(front(chunk, filled), at, line) {
-            return Ok(standing(next, filled, false));
-        }
-        filled = refill(input, chunk)?;
-        at = 0;
-        if filled == 0 {
-            break;
+impl<'a> Reading<'a> {
+    pub fn new(chunk: &'a mut [u8]) -> Reading<'a> {
+        Reading {
+            chunk,
+            filled: 0,
+            at: 0,
+            ended: false,
         }
     }
-    Ok(standing(0, 0, true))
+
+    pub fn is_ended(&self) -> bool {
+        self.ended
+    }
+
+    // Whether the next line stands in the chunk whole, so that it is there without reading.
+    pub fn holds_line(&self) -> bool {
+        match front(self.chunk, self.filled).get(self.at..) {
+            Some(rest) => rest.contains(&b'\n'),
+            None => false,
+        }
+    }
+
+    // Reads the chunk anew; none comes at the end of the input.
+    fn refill(&mut self, input: &mut impl Read) -> io::Result<()> {
+        self.filled = input.read(self.chunk)?;
+        self.at = 0;
+        self.ended = self.filled == 0;
+        Ok(())
+    }
+
+    // The next line, without its newline, becomes what is on its page. Where the input ends before any byte of it, the page is empty and
+    // `is_ended` holds. Nothing says that an input ends, and a proved loop has to: its turns are counted, up to a number that no run uses up.
+    pub fn next_line(&mut self, input: &mut impl Read, line: &mut Page) -> io::Result<()> {
+        line.clear();
+        for _ in 0..u64::MAX {
+            let (filled, at) = (self.filled, self.at);
+            if let Some(next) = take(front(self.chunk, filled), at, line) {
+                self.at = next;
+                break;
+            }
+            self.refill(input)?;
+            if self.ended {
+                break;
+            }
+        }
+        Ok(())
+    }
 }

@@ -9,7 +9,7 @@ mod output;
 
 pub use arguments::{NoNumber, asks_for_help, is_given, number_at};
 pub use file::read_file;
-pub use input::{Place, holds_line, next_line, start};
+pub use input::Reading;
 pub use output::flush_before;
 
 #[cfg(test)]

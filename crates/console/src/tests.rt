@@ -1,6 +1,6 @@
 // What no clause says: which bytes of an input are its lines, when what waits is written, and that a failure comes through. The chunk and
 // the line are small, so that lines cross chunks and are cut.
-use super::{Place, flush_before, holds_line, next_line, start};
+use super::{Reading, flush_before};
 use std::io;
 use std::io::{ErrorKind, Read, Write};
 use std::test::Fail;
@@ -34,25 +34,27 @@ fn lines_cross_chunks_and_are_cut(rt: HostRuntime) -> Result<(), Fail> {
     let mut chunk = [0u8; 4];
     let mut room = [0u8; 5];
     let mut line = Page::new(&mut room);
-    let mut place = start();
+    let mut reading = Reading::new(&mut chunk);
     for want in ["ab", "", "abcde", "c", ""] {
-        place = next_line(&mut input, &mut chunk, &mut line, place)?;
+        reading.next_line(&mut input, &mut line)?;
         let got = str::from_utf8(line.filled()).unwrap_or(NO_LINE);
         assert_eq!(rt; got, want);
     }
-    assert!(rt; place.ended);
+    assert!(rt; reading.is_ended());
     Ok(())
 }
 
 #[test]
 fn a_line_is_held_up_to_its_newline(rt: HostRuntime) {
-    let place = Place {
-        at: 2,
-        filled: 4,
-        ended: false,
-    };
-    for (chunk, want) in [(b"a\nb\nc", true), (b"a\nbc\n", false)] {
-        assert_eq!(rt; holds_line(chunk, place), want);
+    for (bytes, want) in [(b"a\nb\nc", true), (b"a\nbc\n", false)] {
+        let mut chunk = *bytes;
+        let reading = Reading {
+            chunk: &mut chunk,
+            filled: 4,
+            at: 2,
+            ended: false,
+        };
+        assert_eq!(rt; reading.holds_line(), want);
     }
 }
 
@@ -61,8 +63,8 @@ fn a_read_that_fails_is_no_end(rt: HostRuntime) {
     let mut chunk = [0u8; 4];
     let mut room = [0u8; 4];
     let mut line = Page::new(&mut room);
-    let read = next_line(&mut Broken, &mut chunk, &mut line, start());
-    assert!(rt; read.is_err());
+    let mut reading = Reading::new(&mut chunk);
+    assert!(rt; reading.next_line(&mut Broken, &mut line).is_err());
 }
 
 #[test]

@@ -2,7 +2,7 @@
 use super::held::Held;
 use super::output::{ROOM, put_told};
 use anyhow::{Context, Result};
-use console::{Place, flush_before, holds_line, next_line, start};
+use console::{Reading, flush_before};
 use script::{LONGEST, read};
 use std::io::{Read, Write};
 use text::Page;
@@ -19,13 +19,10 @@ fn write_on(output: &mut impl Write, page: &mut Page, due: bool) -> Result<()> {
 }
 
 // The next line.
-fn read_on(
-    input: &mut impl Read,
-    chunk: &mut [u8; CHUNK],
-    line: &mut Page,
-    place: Place,
-) -> Result<Place> {
-    next_line(input, chunk, line, place).context("drive: standard input")
+fn read_on(input: &mut impl Read, reading: &mut Reading, line: &mut Page) -> Result<()> {
+    reading
+        .next_line(input, line)
+        .context("drive: standard input")
 }
 
 // Runs the script that is the input, line after line, until nothing is left to read; all that waited has been written out then. Here is
@@ -35,14 +32,13 @@ pub(crate) fn play(input: &mut impl Read, output: &mut impl Write) -> Result<()>
     let mut line_bytes = [0u8; LINE];
     let mut line = Page::new(&mut line_bytes);
     let mut chunk = [0u8; CHUNK];
+    let mut reading = Reading::new(&mut chunk);
     let mut buffer = [0u8; CHUNK];
     let mut page = Page::new(&mut buffer);
-    let mut place = start();
     for number in 1..=u64::MAX {
-        let due = !holds_line(&chunk, place);
-        write_on(output, &mut page, due)?;
-        place = read_on(input, &mut chunk, &mut line, place)?;
-        if place.ended && line.filled().is_empty() {
+        write_on(output, &mut page, !reading.holds_line())?;
+        read_on(input, &mut reading, &mut line)?;
+        if reading.is_ended() && line.filled().is_empty() {
             return Ok(());
         }
         let told = held.run(read(line.filled()));
