@@ -17,172 +17,125 @@ const IN_PLACE: u64 = 11;
 
 const AS_BEFORE: u64 = 10;
 
-// Answers: a further ticket is to be asked for; nothing is left to ask for.
-const MORE: u64 = 23;
-
-const FINISHED: u64 = 24;
-
-// One action: ask for its ticket, do its work, report what became of it.
-fn update(
-    rt: &impl Print,
-    r: Record,
-    table: &mut [u64; TABLE],
-    broken: u32,
-) -> io::Result<Stepped> {
-    let asked = transaction::ask_update(r);
-    let answer = asked.answer;
-    let Answer::Ticket { number, item } = answer else {
-        return Ok(asked);
-    };
-    let given = work(rt, number, item, broken)?;
-    Ok(transaction::report_update(asked.state, given, table, IN_PLACE))
+// What an agent keeps: the record, and what the calls are lent.
+#[derive(Drop)]
+struct Agent {
+    record: Record,
+    accepted: [u8; AREA],
+    candidate: [u8; AREA],
+    recovery: [u8; AREA],
+    exchange: [u8; AREA],
+    table: [u64; TABLE],
 }
 
-// One undoing: ask which action is next, the last that was started, restore it, report it.
-fn undo(rt: &impl Print, r: Record, table: &mut [u64; TABLE]) -> io::Result<Stepped> {
-    let asked = transaction::ask_rollback(r);
-    let answer = asked.answer;
-    let Answer::Ticket { number, item } = answer else {
-        return Ok(asked);
-    };
-    let given = restore(rt, number, item)?;
-    Ok(transaction::report_rollback(asked.state, given, table, AS_BEFORE))
-}
-
-// Whether the last answer has this number.
-fn answered(last: Stepped, number: u64) -> bool {
-    let answer = last.answer;
-    answer.number() == number
-}
-
-// Every action in turn, until one is not done or none is left.
-fn update_all(
-    rt: &impl Print,
-    begun: Record,
-    table: &mut [u64; TABLE],
-    broken: u32,
-) -> io::Result<Stepped> {
-    let mut last = update(rt, begun, table, broken)?;
-    for _ in 0..ACTIONS {
-        if !answered(last, MORE) {
-            break;
+impl Agent {
+    // The settings in force, at revision 7.
+    fn opened() -> Agent {
+        let start = Opening {
+            revision: 7,
+            serial: 0,
+            replacements: 0,
+        };
+        let mut accepted = [0u8; AREA];
+        Agent {
+            record: transaction::open(start, &mut accepted, &[1; 40]).state,
+            accepted,
+            candidate: [0; AREA],
+            recovery: [0; AREA],
+            exchange: [0; AREA],
+            table: [0; TABLE],
         }
-        last = update(rt, last.state, table, broken)?;
     }
-    Ok(last)
-}
 
-// Every undoing in turn, until none is left.
-fn undo_all(rt: &impl Print, r: Record, table: &mut [u64; TABLE]) -> io::Result<Stepped> {
-    let mut last = undo(rt, r, table)?;
-    for _ in 0..ACTIONS {
-        if !answered(last, MORE) {
-            break;
+    // A call was made: its record is the one for the next.
+    fn keep(&mut self, called: Stepped) -> Answer {
+        self.record = called.state;
+        called.answer
+    }
+
+    // One action: ask for its ticket, do its work, report what became of it.
+    fn update(&mut self, rt: &impl Print, broken: u32) -> io::Result<Answer> {
+        let asked = self.keep(transaction::ask_update(self.record));
+        let Answer::Ticket { number, item } = asked else {
+            return Ok(asked);
+        };
+        let given = work(rt, number, item, broken)?;
+        let reported = transaction::report_update(self.record, given, &mut self.table, IN_PLACE);
+        Ok(self.keep(reported))
+    }
+
+    // One undoing: ask which action is next, the last that was started, restore it, report it.
+    fn undo(&mut self, rt: &impl Print) -> io::Result<Answer> {
+        let asked = self.keep(transaction::ask_rollback(self.record));
+        let Answer::Ticket { number, item } = asked else {
+            return Ok(asked);
+        };
+        let given = restore(rt, number, item)?;
+        let reported = transaction::report_rollback(self.record, given, &mut self.table, AS_BEFORE);
+        Ok(self.keep(reported))
+    }
+
+    // Every action in turn, until one is not done or none is left.
+    fn update_all(&mut self, rt: &impl Print, broken: u32) -> io::Result<Answer> {
+        let mut last = self.update(rt, broken)?;
+        for _ in 0..ACTIONS {
+            if last != Answer::More {
+                break;
+            }
+            last = self.update(rt, broken)?;
         }
-        last = undo(rt, last.state, table)?;
+        Ok(last)
     }
-    Ok(last)
-}
 
-// A reload that is begun, to its end: a commit, or a rollback and a recovery.
-fn reload(
-    rt: &impl Print,
-    begun: Record,
-    accepted: &mut [u8; AREA],
-    candidate: &mut [u8; AREA],
-    recovery: &[u8; AREA],
-    table: &mut [u64; TABLE],
-    broken: u32,
-) -> io::Result<Stepped> {
-    let worked = update_all(rt, begun, table, broken)?;
-    if answered(worked, FINISHED) {
-        return Ok(transaction::commit(worked.state, accepted, candidate));
+    // Every undoing in turn, until none is left.
+    fn undo_all(&mut self, rt: &impl Print) -> io::Result<()> {
+        for _ in 0..ACTIONS {
+            if self.undo(rt)? != Answer::More {
+                break;
+            }
+        }
+        Ok(())
     }
-    let undone = undo_all(rt, worked.state, table)?;
-    let mut exchange = [0u8; AREA];
-    Ok(transaction::recover_retained(undone.state, accepted, recovery, &mut exchange))
-}
 
-// Begins a reload of two actions, and runs it to its end.
-fn round(
-    rt: &impl Print,
-    r: Record,
-    accepted: &mut [u8; AREA],
-    candidate: &mut [u8; AREA],
-    recovery: &mut [u8; AREA],
-    table: &mut [u64; TABLE],
-    broken: u32,
-) -> io::Result<Stepped> {
-    let new = [2u8; 44];
-    let old = [1u8; 40];
-    let pairs = [AS_BEFORE; 4];
-    let begun = transaction::begin(r, candidate, recovery, table, &new, &old, &pairs);
-    reload(
-        rt,
-        begun.state,
-        accepted,
-        candidate,
-        recovery,
-        table,
-        broken,
-    )
-}
+    // A reload of two actions, to its end: a commit, or a rollback and a recovery.
+    fn reload(&mut self, rt: &impl Print, broken: u32) -> io::Result<Answer> {
+        let begun = transaction::begin(
+            self.record,
+            &mut self.candidate,
+            &mut self.recovery,
+            &mut self.table,
+            &[2; 44],
+            &[1; 40],
+            &[AS_BEFORE; 4],
+        );
+        self.keep(begun);
+        let ended = if self.update_all(rt, broken)? == Answer::Finished {
+            transaction::commit(self.record, &mut self.accepted, &mut self.candidate)
+        } else {
+            self.undo_all(rt)?;
+            transaction::recover_retained(
+                self.record,
+                &mut self.accepted,
+                &self.recovery,
+                &mut self.exchange,
+            )
+        };
+        Ok(self.keep(ended))
+    }
 
-// The settings in force, at revision 7.
-fn opened(accepted: &mut [u8; AREA]) -> Record {
-    let start = Opening {
-        revision: 7,
-        serial: 0,
-        replacements: 0,
-    };
-    let old = [1u8; 40];
-    transaction::open(start, accepted, &old).state
-}
-
-// A plan is stamped, a reload is run, and the stamp is checked.
-fn reviewed(
-    rt: &impl Print,
-    r: Record,
-    accepted: &mut [u8; AREA],
-    candidate: &mut [u8; AREA],
-    recovery: &mut [u8; AREA],
-    table: &mut [u64; TABLE],
-    broken: u32,
-    by: End,
-) -> io::Result<Record> {
-    let plan = transaction::stamp(r, DOMAIN);
-    let last = round(rt, r, accepted, candidate, recovery, table, broken)?;
-    ended(rt, by, last)?;
-    verdict(rt, last.state, plan)?;
-    Ok(last.state)
+    // A plan is stamped, a reload is run, and the stamp is checked.
+    fn reviewed(&mut self, rt: &impl Print, broken: u32, by: End) -> io::Result<()> {
+        let plan = transaction::stamp(self.record, DOMAIN);
+        let last = self.reload(rt, broken)?;
+        ended(rt, by, last)?;
+        verdict(rt, self.record, plan)
+    }
 }
 
 fn main(rt: HostRuntime) -> io::Result<()> {
-    let mut accepted = [0u8; AREA];
-    let mut candidate = [0u8; AREA];
-    let mut recovery = [0u8; AREA];
-    let mut table = [0u64; TABLE];
-    let first = opened(&mut accepted);
-    let then = reviewed(
-        &rt,
-        first,
-        &mut accepted,
-        &mut candidate,
-        &mut recovery,
-        &mut table,
-        2,
-        End::Commit,
-    )?;
-    let last = reviewed(
-        &rt,
-        then,
-        &mut accepted,
-        &mut candidate,
-        &mut recovery,
-        &mut table,
-        1,
-        End::Recovery,
-    )?;
-    let plan = transaction::stamp(last, DOMAIN);
-    verdict(&rt, last, plan)
+    let mut agent = Agent::opened();
+    agent.reviewed(&rt, 2, End::Commit)?;
+    agent.reviewed(&rt, 1, End::Recovery)?;
+    let plan = transaction::stamp(agent.record, DOMAIN);
+    verdict(&rt, agent.record, plan)
 }

@@ -1,6 +1,6 @@
 // What the tour writes, and the work that stands in for an agent's: it says what it does.
-use answers::Refusal;
-use record::{Outcome, Record, Reporting, Stepped};
+use answers::{Answer, Refusal};
+use record::{Outcome, Record, Reporting};
 use std::io;
 use step_stamps::SaveStamp;
 
@@ -32,25 +32,21 @@ pub(crate) fn work(
         tell(rt, "  done: action ", action as u64)?;
         Outcome::Done
     };
-    Ok(Reporting {
-        ticket: ticket,
-        outcome: outcome,
-    })
+    Ok(Reporting { ticket, outcome })
 }
 
 // The undoing of an action, and its report.
 pub(crate) fn restore(rt: &impl Print, ticket: u64, action: u32) -> io::Result<Reporting> {
     tell(rt, "  undone: action ", action as u64)?;
     Ok(Reporting {
-        ticket: ticket,
+        ticket,
         outcome: Outcome::Done,
     })
 }
 
 // Writes what the call that ended a reload answered.
-pub(crate) fn ended(rt: &impl Print, by: End, last: Stepped) -> io::Result<()> {
-    let answer = last.answer;
-    let number = answer.number();
+pub(crate) fn ended(rt: &impl Print, by: End, last: Answer) -> io::Result<()> {
+    let number = last.number();
     match by {
         End::Commit => tell(rt, "commit: ", number),
         End::Recovery => tell(rt, "recover retained: ", number),
