@@ -27,13 +27,13 @@ fn audit_file(rt: &(impl Env + Files + Print + Eprint), given: Given) -> Result<
     let mut page = Page::new(&mut buffer);
     let mut output = io::writer(rt);
     match log_files::load(rt, NAME, given, &mut words) {
-        Ok(count) => audit_all(
+        Ok(count) => audit_all(&mut output, given.opening, front(&words, count), &mut page),
+        Err(LoadError::Refused(why)) => put_end(
             &mut output,
-            given.opening,
-            front(&words, count),
             &mut page,
+            Err(Fault::Refused(why)),
+            0,
         ),
-        Err(LoadError::Refused(why)) => put_end(&mut output, &mut page, Err(Fault::Refused(why)), 0),
         Err(LoadError::Unreadable) => Ok(rt.eprint(USAGE)?),
         Err(LoadError::Untold(why)) => Err(why.into()),
     }

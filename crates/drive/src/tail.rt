@@ -23,7 +23,13 @@ impl Held {
         of_verdict(done.map(|count| self.used = count))
     }
 
-    fn find_tail(&self, structs: bool, file: File, size: u64, by: Claim) -> Result<Finding, TailRefusal> {
+    fn find_tail(
+        &self,
+        structs: bool,
+        file: File,
+        size: u64,
+        by: Claim,
+    ) -> Result<Finding, TailRefusal> {
         let words = front(&self.tails, self.lent.tails);
         if structs {
             tail_rows::find(words, self.used, file, size, by)

@@ -57,6 +57,7 @@ fn look(question: Question, given: Opening, words: &[u64], events: usize) -> Fin
     ensures { result ≡ finding question (looks events words.now 0 (opened given)) }
 {
     let mut taken = Taken::opened(given);
+    // By number, not over chunks of words: a bad event is named by its number.
     for at in 0..(words[0] as usize).min(events) {
         let Some(call) = event_at(words, at).call() else {
             return Err(Fault::BadEvent(at));

@@ -37,7 +37,7 @@ fn put_line(
     Ok(())
 }
 
-// A line for each event of a portion, in order.
+// A line for each event of a portion, in order. By number: an event and its answer are both found by it.
 pub(crate) fn put_events(
     output: &mut impl Write,
     words: &[u64],

@@ -9,7 +9,8 @@ ghost use Rattle.replies.specs.Replies.{row_of, reply, reply_of};
 
 use answers::{Answer, Refusal, Was};
 
-// The number of an answer and its values, `count` numbers in all; those after them are zeros. No answer has more than three values.
+// The number of an answer and its values, `count` numbers in all; those after them are zeros. No answer has more than three values;
+// they are fields, not an array, since the kinds of replies name them one by one.
 #[derive(Clone, Copy)]
 pub struct Reply {
     pub number: u64,

@@ -12,7 +12,7 @@ use tail_answers::{Finding, TailRefusal};
 // The number of a call that is not refused.
 const DONE: u64 = 0;
 
-// What finding tells of a file, before the offset where there is one.
+// What finding tells of a file, before the offset where there is one: numbers, as the driver writes them, and no names.
 const SAME: u64 = 0;
 
 const SHRUNK: u64 = 1;

@@ -181,7 +181,7 @@ fn admit_claim(room: Room, used: usize, s: Sweep, claim: Claim) -> Result<(), Ta
     }
 }
 
-// What finding answers.
+// What finding answers. Room, count and sweep are no struct, here and below: each is found of something else that is lent.
 pub fn find_by(
     room: Room,
     used: usize,

@@ -1,5 +1,6 @@
 // The tail table on flat words, lent by the caller, with the count of its used records in and out: is this file the one that was read
-// before, and from where does reading go on? A refusal changes nothing.
+// before, and from where does reading go on? A refusal changes nothing. Words and count are two parameters, not a struct: the words are lent,
+// and the count comes back in the answer.
 #![tactic(auto)]
 
 ghost use Rattle.std.specs.Prelude.{◌≡◌, ◌∷◌, [], ◌++◌, ◌+◌, ◌*◌, ◌%◌, ◌<◌, ◌≤◌, length, take, get_or, set};
