@@ -62,20 +62,27 @@ impl WrongWords {
 }
 
 // The number at a place, or another where there is none.
-pub fn number_or(rt: &impl Env, place: usize, otherwise: u64) -> Result<u64, WrongWords> {
-    Ok(console::number_at(rt, place)?.unwrap_or(otherwise))
+pub fn number_or(rt: &impl Env, place: usize, otherwise: u64) -> u64 {
+    match console::number_at(rt, place) {
+        Ok(Some(number)) => number,
+        _ => otherwise,
+    }
 }
 
-// Reads the file's place and the opening's numbers, each 0 where it is missing, of a program that takes words up to the place `most`.
+// Reads the file's place and the opening's numbers, each 0 where it is missing, of a program that takes words up to the place `most`; behind
+// it each word after the file is a number.
 pub fn read_words(rt: &impl Env, most: usize) -> Result<Given, WrongWords> {
     if !console::is_given(rt, FILE) | console::is_given(rt, most) {
         return Err(WrongWords::Count);
     }
+    for place in REVISION..most {
+        let _ = console::number_at(rt, place)?;
+    }
     let opening = Opening {
-        revision: number_or(rt, REVISION, 0)?,
-        serial: number_or(rt, SERIAL, 0)?,
-        replacements: number_or(rt, REPLACEMENTS, 0)?,
+        revision: number_or(rt, REVISION, 0),
+        serial: number_or(rt, SERIAL, 0),
+        replacements: number_or(rt, REPLACEMENTS, 0),
     };
-    let length = number_or(rt, LENGTH, 0)?;
+    let length = number_or(rt, LENGTH, 0);
     Ok(Given { opening, length })
 }

@@ -39,7 +39,7 @@ impl Wrong {
 
 pub(crate) fn read(rt: &impl Env) -> Result<Replaying, Wrong> {
     let given = log_files::read_words(rt, PORTION + 1)?;
-    let portion = log_files::number_or(rt, PORTION, ALL)? as usize;
+    let portion = log_files::number_or(rt, PORTION, ALL) as usize;
     if portion == 0 {
         return Err(Wrong::Portion);
     }
