@@ -14,5 +14,8 @@ unfoldable pub digest_from : {A : Type 0} → (A → ℕ) → ℕ → List A →
 digest_from value h [] = h
 digest_from value h (v ∷ rest) = digest_from value (next h (value v)) rest
 
-abbrev pub digest_of : {A : Type 0} → (A → ℕ) → List A → ℕ
-digest_of value l = digest_from value 0 l
+abbrev pub digest_by : {A : Type 0} → (A → ℕ) → List A → ℕ
+digest_by value l = digest_from value 0 l
+
+abbrev pub digest_of : List ℕ → ℕ
+digest_of l = digest_by (λ v. v) l

@@ -2,12 +2,12 @@
 #![tactic(auto)]
 
 ghost use Rattle.std.specs.Prelude.{◌≡◌, ◌<◌, ℕ};
-ghost use Rattle.digests.specs.Digesting.{modulus, next, digest_of};
+ghost use Rattle.digests.specs.Digesting.{modulus, next, digest_by, digest_of};
 
 const MODULUS: u64 = 4294967291;
 
 // What is digested element by element: a byte or a word, by its number.
-pub trait Element: Copy {
+trait Element: Copy {
     ghost value: { Self → ℕ };
 
     fn number(self) -> u64
@@ -39,12 +39,26 @@ fn digested(h: u64, number: u64) -> u64
 }
 
 // The digest of the elements, from the first to the last.
-pub fn digest<T: Element>(elements: &[T]) -> u64
-    ensures { result ≡ digest_of T.value elements.now }
+fn digest_all<T: Element>(elements: &[T]) -> u64
+    ensures { result ≡ digest_by T.value elements.now }
 {
     let mut h = 0;
     for element in elements {
         h = digested(h, element.number());
     }
     h
+}
+
+// The digest of the bytes.
+pub fn digest(bytes: &[u8]) -> u64
+    ensures { result ≡ digest_of bytes.now }
+{
+    digest_all(bytes)
+}
+
+// The digest of the words.
+pub fn digest_words(words: &[u64]) -> u64
+    ensures { result ≡ digest_of words.now }
+{
+    digest_all(words)
 }

@@ -56,7 +56,7 @@ pub fn find(
 ) -> Result<Finding, TailRefusal>
     ensures { result ≡ find_of words.now used file size claim }
 {
-    let room = room_of(words)?;
+    let room: Room = room_of(words)?;
     let row = row_of(words);
     tail_structs::find(&row[..room.records], used, file, size, claim)
 }

@@ -1,8 +1,8 @@
--- `digests::digest` meets its contract: from the elements that are left the digest stays what it is of all. Assumes nothing.
+-- `digests::digest_all` meets its contract: from the elements that are left the digest stays what it is of all. Assumes nothing.
 use Rattle.std.proofs.Common.{sym, ◌∙◌, arith}
 use Rattle.std.proofs.lemmas.List.{at_drop_more, at_drop_all}
 use Rattle.digests.specs.Digesting.{digest_from}
-use Rattle.digests.proofs.digest.Goals as goal
+use Rattle.digests.proofs.digest_all.Goals as goal
 
 pub loop-element-preserved : goal.loop-element-preserved
 unfolding digest_from
