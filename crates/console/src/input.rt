@@ -1,4 +1,7 @@
 // Reading line by line, by way of a chunk of bytes. Of a line as many bytes are kept as its page has room for.
+ghost use Rattle.std.specs.Prelude.{◌≡◌};
+ghost use Rattle.console.specs.Reading.{unread, line_held};
+
 use std::io;
 use std::io::Read;
 use text::{Page, front};
@@ -15,8 +18,8 @@ fn take(read: &[u8], from: usize, line: &mut Page) -> Option<usize> {
     None
 }
 
-// The chunk, how many of its bytes were read, the place in them, and whether the input is at its end. A flag, no `Option`: the last line may
-// end with the input, and then nothing is read again.
+// The chunk, how many of its bytes were read, the place in them, and whether the input is at its end. A flag, no `Option`: no value stands
+// beside it.
 #[derive(Drop)]
 pub struct Reading<'a> {
     pub(crate) chunk: &'a mut [u8],
@@ -26,7 +29,10 @@ pub struct Reading<'a> {
 }
 
 impl<'a> Reading<'a> {
-    pub fn new(chunk: &'a mut [u8]) -> Reading<'a> {
+    // Nothing is read at first.
+    pub fn new(chunk: &'a mut [u8]) -> Reading<'a>
+        ensures { result ≡ unread chunk.entry }
+    {
         Reading {
             chunk,
             filled: 0,
@@ -35,12 +41,17 @@ impl<'a> Reading<'a> {
         }
     }
 
-    pub fn is_ended(&self) -> bool {
+    // Whether the input was found at its end.
+    pub fn is_ended(&self) -> bool
+        ensures { result ≡ self.now.ended }
+    {
         self.ended
     }
 
     // Whether the next line stands in the chunk whole, so that it is there without reading.
-    pub fn holds_line(&self) -> bool {
+    pub fn holds_line(&self) -> bool
+        ensures { result ≡ line_held self.now.chunk.now self.now.filled self.now.at }
+    {
         match front(self.chunk, self.filled).get(self.at..) {
             Some(rest) => rest.contains(&b'\n'),
             None => false,

@@ -27,7 +27,21 @@ impl<'a> Page<'a> {
     pub fn new(bytes: &'a mut [u8]) -> Page<'a>
         ensures { result ≡ page bytes.entry 0 }
     {
-        Page { bytes, written: 0 }
+        Page::behind(bytes, 0)
+    }
+
+    // So many are in use at first. Where it is told more than there are, all there are is in use, and nothing more has room.
+    pub fn behind(bytes: &'a mut [u8], written: usize) -> Page<'a>
+        ensures { result ≡ page bytes.entry written }
+    {
+        Page { bytes, written }
+    }
+
+    // How many are in use, or the greater number that `behind` was told.
+    pub fn written(&self) -> usize
+        ensures { result ≡ self.now.written }
+    {
+        self.written
     }
 
     pub fn put_byte(&mut self, byte: u8)
