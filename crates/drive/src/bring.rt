@@ -1,6 +1,7 @@
 // The calls that bring payloads in: open, begin, begin structural, edit and report structure. Each makes the payloads and the words that
 // its line names, in scratch, and then the call on what is lent: where no log is lent it goes to the transaction itself, and where one
-// is lent, all but an edit to the recorder.
+// is lent, all but an edit to the recorder. That is a match in each call, here and in end.rt and work.rt: closures for the two sides would
+// take the same areas twice.
 use super::held::{Held, part};
 use commands::{Bringing, Payloads};
 use record::{Opening, Reporting, Stepped};

@@ -9,6 +9,7 @@ fn put_byte(bytes: &mut [u8], at: usize, value: u64) {
     }
 }
 
+// Not one function with `put_byte`: no value is past a word.
 fn put_word(words: &mut [u64], at: usize, value: u64) {
     if let Some(word) = words.get_mut(at) {
         *word = value;

@@ -2,7 +2,7 @@
 // sixteen words of the log.
 #![tactic(auto)]
 
-use record::{Opening, Record};
+use record::Opening;
 use recorder::{EVENT, HEAD};
 use std::io;
 use transaction::{AREA, TABLE};
@@ -17,20 +17,6 @@ fn print_words(rt: &impl Print, words: &[u64]) -> io::Result<()> {
     println!(rt)
 }
 
-// A begin without actions, and its commit.
-fn reload(
-    start: Record,
-    log: &mut [u64],
-    accepted: &mut [u8],
-    candidate: &mut [u8],
-    recovery: &mut [u8],
-    table: &mut [u64],
-) {
-    let pairs = [0u64; 0];
-    let begun = recorder::begin(start, log, candidate, recovery, table, b"", b"", &pairs);
-    recorder::commit(begun.state, log, accepted, candidate);
-}
-
 fn main(rt: HostRuntime) -> io::Result<()> {
     let mut log = [7u64; LOG];
     let mut accepted = [0u8; AREA];
@@ -38,13 +24,16 @@ fn main(rt: HostRuntime) -> io::Result<()> {
     let mut recovery = [0u8; AREA];
     let mut table = [0u64; TABLE];
     let opened = recorder::open(Opening::start(), &mut log, &mut accepted, b"");
-    reload(
+    let begun = recorder::begin(
         opened.state,
         &mut log,
-        &mut accepted,
         &mut candidate,
         &mut recovery,
         &mut table,
+        b"",
+        b"",
+        &[],
     );
+    recorder::commit(begun.state, &mut log, &mut accepted, &mut candidate);
     print_words(&rt, &log)
 }

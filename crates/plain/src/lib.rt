@@ -39,7 +39,7 @@ pub struct Taken {
     pub revision: u64,
     pub replacements: u64,
     pub serial: u64,
-    // A number of `Live`'s, as in the record, with which the laws compare it.
+    // A number of `Live`'s, with which the laws compare the work of the record's ticket.
     pub live: u8,
     pub running: bool,
     pub structural: bool,

@@ -24,11 +24,11 @@ fn row(number: u64, count: usize, first: u64, second: u64, third: u64) -> Reply
     ensures { result ≡ row_of number count first second third }
 {
     Reply {
-        number: number,
-        count: count,
-        first: first,
-        second: second,
-        third: third,
+        number,
+        count,
+        first,
+        second,
+        third,
     }
 }
 

@@ -17,7 +17,7 @@ pub fn of_stamp(stamping: Result<SaveStamp, Refusal>) -> Reply
         Ok(stamp) => {
             let number = Answer::Done(Was::Nothing).number();
             Reply {
-                number: number,
+                number,
                 count: 4,
                 first: stamp.domain,
                 second: stamp.revision,
