@@ -14,6 +14,8 @@ use text::{Page, front};
 
 const NAME: &str = "audit";
 
+const TAKES: &str = "it takes a file and up to four numbers";
+
 const USAGE: &str = "usage: audit FILE [REVISION [SERIAL [REPLACEMENTS [LENGTH]]]]
 FILE is an input log, eight bytes a word, lowest byte first: 4 words of head, and 8 words an event.
 From an opening at the three numbers with an accepted payload of LENGTH bytes (each 0 if it is not given),
@@ -42,9 +44,6 @@ fn audit_file(rt: &(impl Env + Files + Print + Eprint), given: Given) -> Result<
 fn main(rt: HostRuntime) -> Result<()> {
     match log_files::read_words(&rt, log_files::BEHIND) {
         Ok(given) => audit_file(&rt, given),
-        Err(why) => {
-            let what = why.text("it takes a file and up to four numbers");
-            Ok(log_files::complain(&rt, NAME, what, USAGE)?)
-        }
+        Err(why) => Ok(log_files::complain_words(&rt, NAME, why, TAKES, USAGE)?),
     }
 }

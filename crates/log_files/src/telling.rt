@@ -1,4 +1,5 @@
 // Lines on standard error.
+use super::given::WrongWords;
 use std::io;
 
 // What a program has to say of its work.
@@ -10,6 +11,17 @@ pub(crate) fn tell(rt: &impl Eprint, program: &str, what: &str) -> io::Result<()
 pub fn complain(rt: &impl Eprint, program: &str, what: &str, usage: &str) -> io::Result<()> {
     tell(rt, program, what)?;
     rt.eprint(usage)
+}
+
+// The same of what `read_words` answers; `takes` says which words there are to be.
+pub fn complain_words(
+    rt: &impl Eprint,
+    program: &str,
+    why: WrongWords,
+    takes: &str,
+    usage: &str,
+) -> io::Result<()> {
+    complain(rt, program, why.text(takes), usage)
 }
 
 // Says why the file of a path cannot be read.

@@ -28,15 +28,6 @@ impl From<WrongWords> for Wrong {
     }
 }
 
-impl Wrong {
-    pub(crate) fn text(self) -> &'static str {
-        match self {
-            Wrong::Words(why) => why.text("it takes a file and up to five numbers"),
-            Wrong::Portion => "PORTION is at least 1",
-        }
-    }
-}
-
 pub(crate) fn read(rt: &impl Env) -> Result<Replaying, Wrong> {
     let given = log_files::read_words(rt, PORTION + 1)?;
     let portion = log_files::number_or(rt, PORTION, ALL) as usize;

@@ -7,8 +7,12 @@ mod output;
 mod play;
 
 use anyhow::Result;
+use given::Wrong;
+use log_files::{complain, complain_words};
 
 const NAME: &str = "replay";
+
+const TAKES: &str = "it takes a file and up to five numbers";
 
 const USAGE: &str = "usage: replay FILE [REVISION [SERIAL [REPLACEMENTS [LENGTH [PORTION]]]]]
 FILE is an input log, eight bytes a word, lowest byte first: 4 words of head, and 8 words an event.
@@ -19,6 +23,7 @@ and the events are replayed in portions of PORTION, at least 1 (1024 if it is no
 fn main(rt: HostRuntime) -> Result<()> {
     match given::read(&rt) {
         Ok(replaying) => play::play(&rt, replaying),
-        Err(why) => Ok(log_files::complain(&rt, NAME, why.text(), USAGE)?),
+        Err(Wrong::Words(why)) => Ok(complain_words(&rt, NAME, why, TAKES, USAGE)?),
+        Err(Wrong::Portion) => Ok(complain(&rt, NAME, "PORTION is at least 1", USAGE)?),
     }
 }
