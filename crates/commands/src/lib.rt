@@ -14,7 +14,7 @@ use tail_table::{File, Tail};
 pub enum Command {
     // an empty line or a comment
     Nothing,
-    // a line that is no command
+    // a line that is no command: a case, and no `Option` or `Result` about the others, since each is told in its own way
     Bad,
     Show,
     // what is lent of an area from here on, one element, a payload in the exchange area, the record, the count of used tail records:

@@ -13,7 +13,8 @@ const LINE: usize = LONGEST + 1;
 // How many bytes are read, and written, at once.
 const CHUNK: usize = 65536;
 
-// Writes out what waits before more is read, and where there may be no room for an answer.
+// Writes out what waits before more is read, and where there may be no room for an answer. A line of each
+// program's own: it binds the room and the words that are its.
 fn write_on(output: &mut impl Write, page: &mut Page, due: bool) -> Result<()> {
     flush_before(output, due, page, ROOM).context("drive: standard output")
 }

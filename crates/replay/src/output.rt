@@ -17,7 +17,8 @@ pub(crate) const LAST_LINES: usize = 4096;
 // How many bytes are written at once.
 pub(crate) const CHUNK: usize = 65536;
 
-// Writes out what waits where this is due, and where there may be no room for a line more.
+// Writes out what waits where this is due, and where there may be no room for a line more. A line of each
+// program's own: it binds the room and the words that are its.
 fn write_on(output: &mut impl Write, page: &mut Page, due: bool) -> Result<()> {
     flush_before(output, due, page, LINE).context("replay: standard output")
 }

@@ -1,5 +1,6 @@
 // What a call of the transaction or of the recorder answers as a row of numbers: document 01's number of the answer, and the values that
 // follow it. What a stamp, its check and a call of the status part answer stand in `stamp_replies` and `mark_replies`.
+// No `From`: a reply is the programs' format, and no conversion of the type.
 #![tactic(auto)]
 
 ghost use Rattle.std.specs.Prelude.{◌≡◌, []};

@@ -43,7 +43,7 @@ fn live_of(work: u8, number: u64) -> Live
     }
 }
 
-// The record whose numbers these are; none where a number is past the range of its field.
+// The record whose numbers these are; none where a number is past the range of its field. No `TryFrom`, as in `rows`.
 pub fn record_of(row: [u64; FIELDS]) -> Option<Record>
     ensures { result ≡ record_of row }
 {

@@ -14,7 +14,7 @@ pub const TOP8: u64 = u8::MAX as u64;
 
 pub const TOP32: u64 = u32::MAX as u64;
 
-// A number for each field, in the order of the driver's page.
+// A number for each field, in the order of the driver's page. No `From`: a row is the programs' format, and no conversion of the type.
 pub fn numbers(r: Record) -> [u64; FIELDS]
     ensures { result ≡ row_of r }
 {

@@ -1,4 +1,5 @@
 // What a stamp that was asked for, and the check of one, answer as a row of numbers. No function asks anything of its caller.
+// No `From`, as in `replies`.
 #![tactic(auto)]
 
 ghost use Rattle.std.specs.Prelude.{◌≡◌};

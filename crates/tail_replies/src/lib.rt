@@ -1,4 +1,5 @@
 // What a call of the tail table answers as a row of numbers. No function asks anything of its caller.
+// No `From`, as in `replies`.
 #![tactic(auto)]
 
 ghost use Rattle.std.specs.Prelude.{◌≡◌};
