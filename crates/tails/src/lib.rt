@@ -71,7 +71,7 @@ fn place_of(words: &[u64], used: usize, file: File) -> usize
 {
     // An index, not an iterator: the answer is the place where it stops.
     for i in 0..used {
-        if file <= tail_at(words, i).file() {
+        if !tail_at(words, i).file().before(file) {
             return i;
         }
     }
