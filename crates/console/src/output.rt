@@ -3,14 +3,16 @@ use std::io;
 use std::io::Write;
 use text::Page;
 
-// Writes out what waits where this is due, or where there is less room left than is asked for.
+// Writes out what waits where this is due, or where there is less room left than is asked for; a page that says it has more bytes than it
+// has is out of room.
 pub fn flush_before(
     output: &mut impl Write,
     due: bool,
     page: &mut Page,
     room: usize,
 ) -> io::Result<()> {
-    if due || page.room() < room {
+    let overfull = page.filled().len() < page.written();
+    if due || page.room() < room || overfull {
         output.write_all(page.filled())?;
         page.clear();
     }
