@@ -70,7 +70,10 @@ pub fn move_offset(
 ) -> Result<(), TailRefusal>
     ensures { table_left result used words.new ≡ move_of words.old used tail claim }
 {
-    let room = room_of(words)?;
+    let room = match room_of(words) {
+        Ok(room) => room,
+        Err(why) => return Err(why),
+    };
     let mut row = row_of(words);
     let answer = tail_structs::move_offset(&mut row[..room.records], used, tail, claim);
     put_back(words, &row);

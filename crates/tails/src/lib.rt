@@ -151,7 +151,9 @@ pub fn move_offset(
     ensures { table_left result used words.new ≡ move_of words.old used tail claim }
 {
     let s = sweep(words, used, tail.file());
-    move_by(Room::of_words(words.len()), used, s, tail.offset, claim)?;
+    if let Err(why) = move_by(Room::of_words(words.len()), used, s, tail.offset, claim) {
+        return Err(why);
+    }
     put_offset(words, s.place, tail.offset);
     Ok(())
 }
