@@ -1,7 +1,7 @@
 -- `answers::Refusal::is_written` meets its contract: the refusals 4 and 5, and no other. Assumes nothing.
 use mathlib.Core.Path.{◌≡◌, refl}
 use mathlib.Core.Bool.{false}
-use mathlib.Core.Logic.{⊎_elim}
+use mathlib.Core.Logic.{inl, inr}
 use Rattle.choice.specs.Pick.{◌or◌}
 use Rattle.answers.specs.Classes.{refusal_written}
 use Rattle.answers.specs.declared.Refusal.{Refusal}
@@ -10,7 +10,10 @@ use Rattle.answers.proofs.Refusal.is_written.Goals as goal
 
 pub returns-in-NotReady : goal.returns-in-NotReady
 unfolding refusal_written ◌or◌
-returns-in-NotReady c = ⊎_elim (λ (e : c.args.self ≡ NotReady). simp e) (λ (e : c.args.self ≡ Recovering). simp e) c.in-NotReady.is
+returns-in-NotReady c = elim c.in-NotReady.is [
+  | inl e ↦ simp e
+  | inr e ↦ simp e
+]
 
 unwritten : (why : Refusal) → (why ≡ NotReady → ⊥) → (why ≡ Recovering → ⊥) → false ≡ refusal_written why
 unfolding refusal_written ◌or◌
