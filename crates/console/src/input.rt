@@ -62,7 +62,10 @@ impl<'a> Reading<'a> {
     }
 
     // Reads the chunk anew; none comes at the end of the input.
-    fn refill(&mut self, input: &mut impl Read) -> io::Result<()> {
+    fn refill(&mut self, input: &mut impl Read) -> io::Result<()>
+        ensures same_chunk { self.new.chunk.ghost_name ≡ self.old.chunk.ghost_name }
+        ensures chunk_as_long { length self.new.chunk.now ≡ length self.old.chunk.now }
+    {
         self.filled = input.read(self.chunk)?;
         self.at = 0;
         self.ended = self.filled == 0;
@@ -74,6 +77,8 @@ impl<'a> Reading<'a> {
     pub fn next_line(&mut self, input: &mut impl Read, line: &mut Page) -> io::Result<()>
         ensures same_loan { line.new.bytes.ghost_name ≡ line.old.bytes.ghost_name }
         ensures as_long { length line.new.bytes.now ≡ length line.old.bytes.now }
+        ensures same_chunk { self.new.chunk.ghost_name ≡ self.old.chunk.ghost_name }
+        ensures chunk_as_long { length self.new.chunk.now ≡ length self.old.chunk.now }
     {
         line.clear();
         for _ in 0..u64::MAX {

@@ -7,6 +7,11 @@ pub fn tell(rt: &impl Eprint, program: &str, what: &str) -> io::Result<()> {
     eprintln!(rt; "{program}: {what}")
 }
 
+// The same of what `read_words` answers; `takes` says which words there are to be.
+pub fn tell_words(rt: &impl Eprint, program: &str, why: WrongWords, takes: &str) -> io::Result<()> {
+    tell(rt, program, why.text(takes))
+}
+
 // Says what is wrong with the words that a program was given, and how it is used.
 pub fn complain(rt: &impl Eprint, program: &str, what: &str, usage: &str) -> io::Result<()> {
     tell(rt, program, what)?;

@@ -23,15 +23,18 @@ and the events are replayed in portions of PORTION, at least 1 (1024 if it is no
 const STANDARD_ERROR: &str = "replay: standard error";
 
 // Says what is wrong with the words that the program was given, and how it is used.
-fn complain(rt: &impl Eprint, what: &str) -> Result<()> {
-    log_files::tell(rt, NAME, what).context(STANDARD_ERROR)?;
+fn complain(rt: &impl Eprint, why: Wrong) -> Result<()> {
+    let told = match why {
+        Wrong::Words(why) => log_files::tell_words(rt, NAME, why, TAKES),
+        Wrong::Portion => log_files::tell(rt, NAME, "PORTION is at least 1"),
+    };
+    told.context(STANDARD_ERROR)?;
     Ok(rt.eprint(USAGE)?)
 }
 
 fn main(rt: HostRuntime) -> Result<()> {
     match given::read(&rt) {
         Ok(replaying) => play::play(&rt, replaying),
-        Err(Wrong::Words(why)) => complain(&rt, why.text(TAKES)),
-        Err(Wrong::Portion) => complain(&rt, "PORTION is at least 1"),
+        Err(why) => complain(&rt, why),
     }
 }
