@@ -38,6 +38,7 @@ fn audit_file(rt: &(impl Env + Files + Print + Eprint), given: Given) -> Result<
         ),
         Err(LoadError::Unreadable) => Ok(rt.eprint(USAGE)?),
         Err(LoadError::Untold(why)) => Err(why.into()),
+        Err(LoadError::Unexplained(why)) => Err(why.into()),
     }
 }
 

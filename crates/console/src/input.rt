@@ -1,5 +1,5 @@
 // Reading line by line, by way of a chunk of bytes. Of a line as many bytes are kept as its page has room for.
-ghost use Rattle.std.specs.Prelude.{◌≡◌};
+ghost use Rattle.std.specs.Prelude.{◌≡◌, length};
 ghost use Rattle.console.specs.Reading.{unread, line_held};
 
 use std::io;
@@ -8,7 +8,10 @@ use text::{Page, front};
 
 // Puts bytes on the line's page up to a newline or the end of what was read, and answers the place behind the newline, if there was one.
 // An index, no iterator: the answer is the place where it stops.
-fn take(read: &[u8], from: usize, line: &mut Page) -> Option<usize> {
+fn take(read: &[u8], from: usize, line: &mut Page) -> Option<usize>
+    ensures same_loan { line.new.bytes.ghost_name ≡ line.old.bytes.ghost_name }
+    ensures as_long { length line.new.bytes.now ≡ length line.old.bytes.now }
+{
     for i in from..read.len() {
         if read[i] == b'\n' {
             return Some(i + 1);
@@ -68,7 +71,10 @@ impl<'a> Reading<'a> {
 
     // The next line, without its newline, becomes what is on its page. Where the input ends before any byte of it, the page is empty and
     // `is_ended` holds. Nothing says that an input ends, and a proved loop has to: its turns are counted, up to a number that no run uses up.
-    pub fn next_line(&mut self, input: &mut impl Read, line: &mut Page) -> io::Result<()> {
+    pub fn next_line(&mut self, input: &mut impl Read, line: &mut Page) -> io::Result<()>
+        ensures same_loan { line.new.bytes.ghost_name ≡ line.old.bytes.ghost_name }
+        ensures as_long { length line.new.bytes.now ≡ length line.old.bytes.now }
+    {
         line.clear();
         for _ in 0..u64::MAX {
             let (filled, at) = (self.filled, self.at);

@@ -14,20 +14,27 @@ const LINE: usize = LONGEST + 1;
 const CHUNK: usize = 65536;
 
 // Writes out what waits before more is read, and where there may be no room for an answer. A line of each
-// program's own: it binds the room and the words that are its.
+// program's own: it binds the room and the words that are its. Words are put to an error, where there is one:
+// on every result, each line would pay for two calls.
 fn write_on(output: &mut impl Write, page: &mut Page, due: bool) -> Result<()> {
-    flush_before(output, due, page, ROOM).context("drive: standard output")
+    match flush_before(output, due, page, ROOM) {
+        Ok(()) => Ok(()),
+        Err(why) => Err(why).context("drive: standard output"),
+    }
 }
 
 // The next line.
 fn read_on(input: &mut impl Read, reading: &mut Reading, line: &mut Page) -> Result<()> {
-    reading
-        .next_line(input, line)
-        .context("drive: standard input")
+    match reading.next_line(input, line) {
+        Ok(()) => Ok(()),
+        Err(why) => Err(why).context("drive: standard input"),
+    }
 }
 
 // Runs the script that is the input, line after line, until nothing is left to read; all that waited has been written out then. Here is
-// all that the driver holds, and room: for what is read, a line of it, and what waits to be written.
+// all that the driver holds, and room: for what is read, a line of it, and what waits to be written. A function of its own, and no part of
+// `main`: what it holds is 200 kilobytes of the stack, which the usage text needs none of.
+#[inline(never)]
 pub(crate) fn play(input: &mut impl Read, output: &mut impl Write) -> Result<()> {
     let mut held = Held::first();
     let mut line_bytes = [0u8; LINE];

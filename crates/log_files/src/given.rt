@@ -53,7 +53,7 @@ impl From<NoNumber> for WrongWords {
 
 impl WrongWords {
     // As it is told; `takes` says which words there are to be.
-    pub(crate) fn text(self, takes: &str) -> &str {
+    pub fn text(self, takes: &str) -> &str {
         match self {
             WrongWords::Count => takes,
             WrongWords::Number => "a word after FILE is no number from 0 to 18446744073709551615",

@@ -8,4 +8,4 @@ mod telling;
 
 pub use file::{LoadError, WORDS, load};
 pub use given::{BEHIND, Given, WrongWords, number_or, read_words};
-pub use telling::{complain, complain_words};
+pub use telling::{complain, complain_words, tell};

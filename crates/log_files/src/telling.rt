@@ -3,7 +3,7 @@ use super::given::WrongWords;
 use std::io;
 
 // What a program has to say of its work.
-pub(crate) fn tell(rt: &impl Eprint, program: &str, what: &str) -> io::Result<()> {
+pub fn tell(rt: &impl Eprint, program: &str, what: &str) -> io::Result<()> {
     eprintln!(rt; "{program}: {what}")
 }
 
@@ -24,14 +24,8 @@ pub fn complain_words(
     complain(rt, program, why.text(takes), usage)
 }
 
-// Says why the file of a path cannot be read.
-pub(crate) fn tell_unreadable(
-    rt: &impl Eprint,
-    program: &str,
-    path: &[u8],
-    why: io::Error,
-) -> io::Result<()> {
+// Says why the file of a path cannot be read, in the system's words.
+pub(crate) fn tell_unreadable(rt: &impl Eprint, path: &[u8], why: io::Error) -> io::Result<()> {
     let name = str::from_utf8(path).unwrap_or("FILE");
-    eprintln!(rt; "{name}: {why}")?;
-    tell(rt, program, "FILE cannot be read")
+    eprintln!(rt; "{name}: {why}")
 }

@@ -3,6 +3,7 @@ use Rattle.std.proofs.Common.{◌≡◌, ℕ, ◌+◌, ◌≤◌, ◌<◌, List,
 use Rattle.std.specs.Bool.{then_some}
 use Rattle.std.specs.Char.{is_ascii_uppercase}
 use Rattle.std.specs.List.{position_or_len}
+use Rattle.std.specs.Option.{ok_or}
 use Rattle.std.proofs.lemmas.List.Recursion.{is_position_or_len}
 use mathlib.Core.Logic.{◌≢◌}
 use borrow.Author.Tests.{eq-eqb, ne_eqb, le-leb, lt-leb}
@@ -14,7 +15,7 @@ use Rattle.numbers.specs.Reading.{number_at}
 use Rattle.text.specs.Writing.{newline_byte}
 use Rattle.matching.specs.declared.Taken.{Taken}
 use Rattle.matching.specs.declared.Numbers.{Numbers}
-use Rattle.matching.specs.Templates.{most_at, letters, place_in, a_number, letter_of, taken_of, same_as, taken_at, kept_of, fits_from}
+use Rattle.matching.specs.Templates.{most_at, letters, place_in, a_number, letter_of, taken_of, same_as, taken_at, kept_of, fitted, fits_from}
 
 -- the place of a byte is the first at which it stands
 placed : (byte : ℕ) (l : List ℕ) → place_in l byte ≡ position_or_len (λ x. byte == x) l
@@ -54,20 +55,25 @@ module _ (line : List ℕ) (at mark : ℕ) where
     unfolding taken_at ◌and◌
     take-same e capital other = no _ (lt-leb _ _ h) (no _ (ne_eqb _ _ e) (no _ (sym capital ∙ other) refl))
 
+-- the numbers, by whether the line fits
+pub ends : (fits : Bool) (row : List ℕ) → ok_or (then_some fits row) row ≡ fitted fits row
+ends true row = refl
+ends false row = refl
+
 module _ (line template : List ℕ) (n : Numbers) (at i : ℕ) where
-  pub fit_end : length template ≤ i → fits_from line n at (drop i template) ≡ None
+  pub fit_end : length template ≤ i → fits_from line n at (drop i template) ≡ fitted false n.row
   unfolding fits_from
   fit_end h = ap (fits_from line n at) (drop_all i template h)
 
   module _ (h : i < length template) where
-    pub fit-newline : get_or template i 0 ≡ newline_byte → fits_from line n at (drop i template) ≡ then_some (eqb at (length line)) n.row
+    pub fit-newline : get_or template i 0 ≡ newline_byte → fits_from line n at (drop i template) ≡ fitted (eqb at (length line)) n.row
     unfolding fits_from
     fit-newline e = ap (fits_from line n at) (drop-cons template i 0 h) ∙ sym (yes _ (eq-eqb _ _ e) refl)
 
     module _ (other : get_or template i 0 ≢ newline_byte) where
-      pub fit-none : None ≡ taken_at line at (get_or template i 0) → None ≡ fits_from line n at (drop i template)
+      pub fit-wrong : taken_at line at (get_or template i 0) ≡ None → fits_from line n at (drop i template) ≡ fitted false n.row
       unfolding fits_from
-      fit-none e = no _ (ne_eqb _ _ other) (rw (← e)) ∙ ap (fits_from line n at) (sym (drop-cons template i 0 h))
+      fit-wrong e = ap (fits_from line n at) (drop-cons template i 0 h) ∙ sym (no _ (ne_eqb _ _ other) (rw e))
 
       pub fit-some : {taken : Taken} → Some taken ≡ taken_at line at (get_or template i 0)
           → fits_from line (kept_of n taken.number) taken.next (drop (i + 1) template) ≡ fits_from line n at (drop i template)

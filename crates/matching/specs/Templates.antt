@@ -1,7 +1,8 @@
 -- Whether a line fits a template, and the numbers that it has: what the driver's page says of words, numbers and their ranges.
 -- Assumes nothing.
-use Rattle.std.specs.Prelude.{ℕ, suc, ◌+◌, List, [], ◌∷◌, Option, Some, None, option_and_then, eqb, ltb, leb, length, get_or, set, replicate}
+use Rattle.std.specs.Prelude.{ℕ, suc, ◌+◌, Bool, true, false, List, [], ◌∷◌, Option, Some, None, Result, Ok, Err, eqb, ltb, leb, length, get_or, set, replicate}
 use Rattle.std.specs.Bool.{then_some}
+use Rattle.std.specs.Option.{option_map_or}
 use Prim.Native.Char.{code}
 use Rattle.choice.specs.Pick.{pick, ◌and◌}
 use Rattle.tickets.specs.Live.{rollback}
@@ -73,18 +74,23 @@ abbrev pub kept_of : Numbers → Option ℕ → Numbers
 kept_of n None = n
 kept_of n (Some value) = kept n value
 
--- where the bytes of the line from a place on are as the template says that is left, up to its newline, and no byte too many: the
+-- the numbers of a line that fits, or those that were read of one that does not
+abbrev pub fitted : Bool → List ℕ → Result (List ℕ) (List ℕ)
+fitted true row = Ok row
+fitted false row = Err row
+
+-- whether the bytes of the line from a place on are as the template says that is left, up to its newline, and no byte too many; with the
 -- numbers, one put after the other
-unfoldable pub fits_from : List ℕ → Numbers → ℕ → List ℕ → Option (List ℕ)
-fits_from line n at [] = None
+unfoldable pub fits_from : List ℕ → Numbers → ℕ → List ℕ → Result (List ℕ) (List ℕ)
+fits_from line n at [] = fitted false n.row
 fits_from line n at (mark ∷ rest) =
-    pick (eqb mark newline_byte) (then_some (eqb at (length line)) n.row)
-    (option_and_then (λ taken. fits_from line (kept_of n taken.number) taken.next rest) (taken_at line at mark))
+    pick (eqb mark newline_byte) (fitted (eqb at (length line)) n.row)
+    (option_map_or (λ taken. fits_from line (kept_of n taken.number) taken.next rest) (taken_at line at mark) (fitted false n.row))
 
 -- before the first number there are zeros
 abbrev pub blank : Numbers
 blank = so_far (replicate fields 0) 0
 
 -- the whole line, by a template
-abbrev pub fits_at : List ℕ → List ℕ → Option (List ℕ)
+abbrev pub fits_at : List ℕ → List ℕ → Result (List ℕ) (List ℕ)
 fits_at line template = fits_from line blank 0 template

@@ -111,8 +111,9 @@ fn take(line: &[u8], at: usize, mark: u8) -> Option<Taken>
     (byte == mark).then_some(Taken { number: None, next })
 }
 
-// The numbers of a line that is as the template says, up to a newline and with no byte too many; in order, with zeros after them.
-pub fn fits(line: &[u8], template: &[u8]) -> Option<[u64; NUMBERS]>
+// The numbers of a line that is as the template says, up to a newline and with no byte too many, or those that were read of a line that is
+// not; in order, with zeros after them.
+pub fn fits(line: &[u8], template: &[u8]) -> Result<[u64; NUMBERS], [u64; NUMBERS]>
     ensures { result ≡ fits_at line.now template.now }
 {
     let mut numbers = Numbers {
@@ -122,13 +123,15 @@ pub fn fits(line: &[u8], template: &[u8]) -> Option<[u64; NUMBERS]>
     let mut at = 0;
     for mark in template {
         if *mark == b'\n' {
-            return (at == line.len()).then_some(numbers.row);
+            return (at == line.len()).then_some(numbers.row).ok_or(numbers.row);
         }
-        let taken = take(line, at, *mark)?;
+        let Some(taken) = take(line, at, *mark) else {
+            return Err(numbers.row);
+        };
         if let Some(value) = taken.number {
             numbers.keep(value);
         }
         at = taken.next;
     }
-    None
+    Err(numbers.row)
 }

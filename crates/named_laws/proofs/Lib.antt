@@ -3,3 +3,11 @@ pub mod Swaps
 pub mod Events
 pub mod Steps
 pub mod Stamps
+pub mod Numbers
+pub mod Digests
+pub mod Templates
+pub mod Lines
+pub mod Rows
+pub mod Writing
+pub mod Looking
+pub mod Replays

@@ -6,9 +6,8 @@ mod given;
 mod output;
 mod play;
 
-use anyhow::Result;
+use anyhow::{Context, Result};
 use given::Wrong;
-use log_files::{complain, complain_words};
 
 const NAME: &str = "replay";
 
@@ -20,10 +19,19 @@ A record is opened at the three numbers with an accepted payload of LENGTH bytes
 and the events are replayed in portions of PORTION, at least 1 (1024 if it is not given).
 ";
 
+// What an error on standard error is told with, where it is one of the program's own words.
+const STANDARD_ERROR: &str = "replay: standard error";
+
+// Says what is wrong with the words that the program was given, and how it is used.
+fn complain(rt: &impl Eprint, what: &str) -> Result<()> {
+    log_files::tell(rt, NAME, what).context(STANDARD_ERROR)?;
+    Ok(rt.eprint(USAGE)?)
+}
+
 fn main(rt: HostRuntime) -> Result<()> {
     match given::read(&rt) {
         Ok(replaying) => play::play(&rt, replaying),
-        Err(Wrong::Words(why)) => Ok(complain_words(&rt, NAME, why, TAKES, USAGE)?),
-        Err(Wrong::Portion) => Ok(complain(&rt, NAME, "PORTION is at least 1", USAGE)?),
+        Err(Wrong::Words(why)) => complain(&rt, why.text(TAKES)),
+        Err(Wrong::Portion) => complain(&rt, "PORTION is at least 1"),
     }
 }

@@ -26,11 +26,11 @@ module _ (m count seed i : ℕ) (l : List ℕ) where
       rw (add-one i, take-suc-set l i v h, drop-set-lt (suc i) l i v (le_refl _), left, drop-cons l i 0 h, next, e)
       (append_snoc (take i l) ((seed + i) % m) _)
 
-  seed_done : count ≤ i → seeded_from m count seed i l ≡ l
+  pub seed_done : count ≤ i → seeded_from m count seed i l ≡ l
   unfolding seeded_over
   seed_done h = let none_left : count - i ≡ 0 = omega arith in rw none_left (take-append-drop i l)
 
-  seed_end : length l ≤ i → seeded_from m count seed i l ≡ l
+  pub seed_end : length l ≤ i → seeded_from m count seed i l ≡ l
   seed_end h = rw (drop_all i l h, none m (count - i) (seed + i), take_all i l h) (append-nil l)
 
   -- the loop ends at the last that is to be seeded, or where the list ends

@@ -2,7 +2,7 @@
 // left out.
 #![tactic(auto)]
 
-ghost use Rattle.std.specs.Prelude.{◌≡◌, take};
+ghost use Rattle.std.specs.Prelude.{◌≡◌, ◌+◌, ◌%◌, ◌<◌, take};
 ghost use Rattle.seeds.specs.Seeds.{payload_over, words_over};
 
 use text::front;
@@ -13,6 +13,13 @@ pub struct Seeded {
     pub seed: u64,
 }
 
+// The byte of a payload after this one. No remainder: by one, each byte waits longer for the byte before it.
+fn next(value: u8) -> u8
+    ensures { value < 251 → result ≡ (value + 1) % 251 }
+{
+    if value < 250 { value + 1 } else { 0 }
+}
+
 // The start of `bytes` becomes a payload: byte i is (seed + i) mod 251.
 pub fn fill(bytes: &mut [u8], named: Seeded)
     ensures { bytes.new ≡ payload_over named.count named.seed bytes.old }
@@ -21,7 +28,7 @@ pub fn fill(bytes: &mut [u8], named: Seeded)
     // A range, not `iter_mut().take(n)`: once such a borrow is over, a proof knows nothing of the elements; the same below.
     for i in 0..named.count.min(bytes.len()) {
         bytes[i] = value;
-        value = (value + 1) % 251;
+        value = next(value);
     }
 }
 

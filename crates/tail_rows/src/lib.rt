@@ -70,6 +70,7 @@ pub fn move_offset(
 ) -> Result<(), TailRefusal>
     ensures { table_left result used words.new ≡ move_of words.old used tail claim }
 {
+    // By hand, not by `?`, as in `tails::move_offset`.
     let room = match room_of(words) {
         Ok(room) => room,
         Err(why) => return Err(why),

@@ -80,6 +80,21 @@ impl Tail {
     }
 }
 
+impl File {
+    pub fn is(self, other: File) -> bool
+        ensures { result ≡ same self other }
+    {
+        (self.device == other.device) & (self.inode == other.inode)
+    }
+
+    // By device, then by inode: what the derived `<` computes, with no branch, by which a sweep is quicker.
+    pub fn before(self, other: File) -> bool
+        ensures { result ≡ before self other }
+    {
+        (self.device < other.device) | ((self.device == other.device) & (self.inode < other.inode))
+    }
+}
+
 impl Room {
     // Two constructors: words can be left over behind the last record, and structs can't.
     pub fn of_words(n: usize) -> Room
@@ -145,10 +160,10 @@ impl Sweep {
         ensures { result ≡ stepped self t number }
     {
         let this = t.file();
-        if !((self.count == 0) | (self.last < this)) {
+        if !((self.count == 0) | self.last.before(this)) {
             return self.past(this, number, false);
         }
-        if (this == self.file) & !self.met {
+        if this.is(self.file) & !self.met {
             return Sweep {
                 count: number,
                 last: this,

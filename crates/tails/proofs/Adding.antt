@@ -36,7 +36,7 @@ module _ (words : List ℕ) (used : ℕ) (t : Tail) where
     pub table : Sound words used
     pub spare : used < length (tails_of words)
 
-  addable : verdict (add_row words used t) ≡ Ok tt → Addable
+  pub addable : verdict (add_row words used t) ≡ Ok tt → Addable
   addable h = let k = clear (add_row words used t) h in record { table = sound words used k.0 k.1.0; spare = leb-false (length (tails_of words)) used k.1.1.1.0 }
 
   pub added : {v : Verdict} {room : Room} {s : Sweep} {f : File} → room ≡ room_of (length words) → f ≡ file_of t → s ≡ seen words used f → v ≡ add_by room used s → v ≡ Ok tt → Addable

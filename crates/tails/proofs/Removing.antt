@@ -34,7 +34,7 @@ module _ (words : List ℕ) (used : ℕ) (f : File) where
     pub table : Sound words used
     pub there : stands (used_of words used) f ≡ true
 
-  removable : verdict (remove_row words used f) ≡ Ok tt → Removable
+  pub removable : verdict (remove_row words used f) ≡ Ok tt → Removable
   removable h = let k = clear (remove_row words used f) h in record { table = sound words used k.0 k.1.0; there = not-false _ k.1.1.0 }
 
   pub removed : {v : Verdict} {room : Room} {s : Sweep} → room ≡ room_of (length words) → s ≡ seen words used f → v ≡ remove_by room used s → v ≡ Ok tt → Removable

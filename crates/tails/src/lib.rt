@@ -71,7 +71,7 @@ fn place_of(words: &[u64], used: usize, file: File) -> usize
 {
     // An index, not an iterator: the answer is the place where it stops.
     for i in 0..used {
-        if file <= tail_at(words, i).file() {
+        if !tail_at(words, i).file().before(file) {
             return i;
         }
     }
@@ -151,6 +151,7 @@ pub fn move_offset(
     ensures { table_left result used words.new ≡ move_of words.old used tail claim }
 {
     let s = sweep(words, used, tail.file());
+    // By hand, not by `?`: an edit that answers Done here, and moves nothing, then turns this answer alone.
     if let Err(why) = move_by(Room::of_words(words.len()), used, s, tail.offset, claim) {
         return Err(why);
     }

@@ -1,5 +1,5 @@
 -- Looking for the next newline, and one turn of looking for the first template that fits. Assumes nothing.
-use Rattle.std.proofs.Common.{◌≡◌, ℕ, suc, ◌+◌, ◌≤◌, ◌<◌, true, false, List, [], ◌∷◌, Some, None, ◌==◌, position, refl, sym, ◌∙◌, eqb, ltb, length, drop, add-one, arith}
+use Rattle.std.proofs.Common.{◌≡◌, ℕ, suc, ◌+◌, ◌≤◌, ◌<◌, true, false, List, [], ◌∷◌, Some, None, Ok, Err, ◌==◌, position, refl, sym, ◌∙◌, eqb, ltb, length, drop, add-one, arith}
 use Rattle.std.specs.List.{position_or_len}
 use borrow.Author.Tests.{ltb-true, ltb-false}
 use Rattle.choice.specs.Pick.{pick}
@@ -39,11 +39,11 @@ passed line (byte ∷ l) =
     test (eqb byte 10) (λ e. rw e) (λ e. rw e (passed line l))
 
 module _ (line rest : List ℕ) (key : ℕ) (template : List ℕ) (at : rest ≡ key ∷ template) where
-  pub first-some : {row : List ℕ} → Some row ≡ fits_at line template → Some (found key row) ≡ first_from line false rest
+  pub first-some : {row : List ℕ} → Ok row ≡ fits_at line template → Some (found key row) ≡ first_from line false rest
   unfolding first_from
   first-some e = rw (at, ← e)
 
-  pub first-none : None ≡ fits_at line template → first_from line false (after_line template) ≡ first_from line false rest
+  pub first-none : {row : List ℕ} → Err row ≡ fits_at line template → first_from line false (after_line template) ≡ first_from line false rest
   unfolding first_from
   first-none e = rw (at, ← e) (passed line template)
 

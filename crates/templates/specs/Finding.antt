@@ -1,5 +1,5 @@
 -- The first of several templates that a line fits. Each stands after its key, a byte, and ends with a newline. Assumes nothing.
-use Rattle.std.specs.Prelude.{ℕ, Bool, true, false, not, List, [], ◌∷◌, Option, Some, None, eqb}
+use Rattle.std.specs.Prelude.{ℕ, Bool, true, false, not, List, [], ◌∷◌, Option, Some, None, Result, Ok, Err, eqb}
 use Rattle.choice.specs.Pick.{pick}
 use Rattle.text.specs.Writing.{newline_byte}
 use Rattle.matching.specs.Templates.{blank, fits_from}
@@ -14,9 +14,9 @@ abbrev pub found : ℕ → List ℕ → Found
 found key row = record { key = key; numbers = row }
 
 -- what a template gives where the line fits it, else what those after it give
-abbrev pub found_or : ℕ → Option (List ℕ) → Option Found → Option Found
-found_or key (Some row) later = Some (found key row)
-found_or key None later = later
+abbrev pub found_or : ℕ → Result (List ℕ) (List ℕ) → Option Found → Option Found
+found_or key (Ok row) later = Some (found key row)
+found_or key (Err row) later = later
 
 -- the key of the first template that the line fits, and the numbers; of the templates that are left, which start inside one that the line
 -- does not fit, or at a key

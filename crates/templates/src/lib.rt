@@ -40,7 +40,7 @@ pub fn first_fitting(line: &[u8], templates: &[u8]) -> Option<Found>
 {
     let mut rest = templates;
     while let Some((key, template)) = rest.split_first() {
-        if let Some(numbers) = fits(line, template) {
+        if let Ok(numbers) = fits(line, template) {
             return Some(Found { key: *key, numbers });
         }
         rest = next_template(template);

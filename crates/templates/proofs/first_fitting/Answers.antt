@@ -3,8 +3,8 @@ use Rattle.std.proofs.Common.{◌∙◌}
 use Rattle.templates.proofs.Passing.{first_end, first-some, first-none}
 use Rattle.templates.proofs.first_fitting.Goals as goal
 
-pub returns-in-Some-fits : goal.returns-in-Some-fits
-returns-in-Some-fits c = first-some _ _ _ _ c.in-Some.ensures.cases.0 c.in-Some-fits.ensures ∙ c.loop-key.invariant
+pub returns-in-Ok : goal.returns-in-Ok
+returns-in-Ok c = first-some _ _ _ _ c.in-Some.ensures.cases.0 c.in-Ok.ensures ∙ c.loop-key.invariant
 
 pub loop-key-preserved : goal.loop-key-preserved
 loop-key-preserved c =

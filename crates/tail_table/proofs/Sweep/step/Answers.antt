@@ -10,7 +10,6 @@ use Rattle.tail_table.specs.Sweeping.{past, stepped}
 use Rattle.tail_table.specs.declared.Tail.{Tail}
 use Rattle.tail_table.specs.declared.File.{File}
 use Rattle.tail_table.specs.declared.Sweep.{Sweep}
-use Rattle.tail_table.proofs.Files.{lt_before}
 use Rattle.tail_table.proofs.Sweep.step.Goals as goal
 
 -- the code's own values: the record's pair u, and whether it comes after the last, b
@@ -34,20 +33,25 @@ module _ (s : Sweep) (t : Tail) (number : ℕ) {u : File} {b : Bool} (p : u ≡ 
     no_more : {z : Sweep} → m and not s.met ≡ false → z ≡ past s u number s.ordered → z ≡ stepped s t number
     no_more e q = no _ (tested false h) (no _ (met-too false e) (q ∙ ap (λ (x : File). past s x number s.ordered) p))
 
-pub returns-then-not-self-lt : goal.returns-then-not-self-lt
+pub returns-then-not-self-before : goal.returns-then-not-self-before
 unfolding ◌or◌
-returns-then-not-self-lt c =
-    let a = c.args in
-    out_of_order a.self a.t a.number c.file-this.ensures (c.lt.ensures ∙ lt_before _ _) (ap not c.if-not-self-lt.true) c.past.ensures
+returns-then-not-self-before c =
+    let d = c in
+    let u = d in
+    let a = u.args in
+    out_of_order a.self a.t a.number u.file-this.ensures d.before-2.ensures (ap not d.if-not-self-before.true) c.past.ensures
 
-pub returns-then-eq-self : goal.returns-then-eq-self
-unfolding same ◌or◌ ◌and◌
-returns-then-eq-self c =
-    let a = c.args in
-    first-met a.self a.t a.number c.file-this.ensures (c.lt.ensures ∙ lt_before _ _) c.eq.ensures (ap not c.if-not-self-lt.false) c.if-eq-self.true
+pub returns-then-is-self : goal.returns-then-is-self
+unfolding ◌or◌ ◌and◌
+returns-then-is-self c =
+    let u = c in
+    let a = u.args in
+    first-met a.self a.t a.number u.file-this.ensures c.before-2.ensures c.is.ensures (ap not c.if-not-self-before.false) c.if-is-self.true
 
 pub returns : goal.returns
-unfolding same ◌or◌ ◌and◌
+unfolding ◌or◌ ◌and◌
 returns c =
-    let a = c.args in
-    no_more a.self a.t a.number c.file-this.ensures (c.lt.ensures ∙ lt_before _ _) c.eq.ensures (ap not c.if-not-self-lt.false) c.if-eq-self.false c.past-2.ensures
+    let d = c in
+    let u = d in
+    let a = u.args in
+    no_more a.self a.t a.number u.file-this.ensures d.before-2.ensures d.is.ensures (ap not d.if-not-self-before.false) d.if-is-self.false c.past-2.ensures
