@@ -45,7 +45,12 @@ fn number_after(question: Question, given: Opening, words: &[u64], events: usize
 pub fn audit(given: Opening, words: &[u64], events: usize) -> Result<Answers, Fault>
     ensures { result ≡ audited given words.now events }
 {
-    let phase = plain::ask(Question::Phase, given, words, events)?;
+    // By hand, not by `?`, so that the number that a bad event is told by is a value of its own.
+    let phase = match plain::ask(Question::Phase, given, words, events) {
+        Ok(phase) => phase,
+        Err(Fault::BadEvent(number)) => return Err(Fault::BadEvent(number)),
+        Err(Fault::Refused(why)) => return Err(Fault::Refused(why)),
+    };
     Ok(Answers {
         phase,
         commit: number_after(Question::CommitAllowed, given, words, events),
