@@ -1,4 +1,4 @@
--- What an exchange by blocks has done: putting a block over an area, how far the exchange is then, and what is left behind the last block. Assumes nothing.
+-- What a copy by parts and an exchange by blocks have done: putting a block over an area, how far either is then, and what is left behind the last. Assumes nothing.
 use mathlib.Core.Path.{◌≡◌, refl, sym, ap, ◌∙◌}
 use mathlib.Core.List.{List, ◌++◌, append-nil}
 use Prim.Native.Nat.{ℕ, ◌+◌, ◌-◌, ◌≤◌, ◌<◌}
@@ -10,7 +10,7 @@ use borrow.Rule.Slice.PartMut.{put_mid}
 use Rattle.areas.proofs.Over.{Copying}
 
 -- a copy that is under way: what is copied, and behind it what was there
-module _ {d s m : List ℕ} {i : ℕ} (v : Copying d s m i) where
+module _ {A : Type 0} {d s m : List A} {i : ℕ} (v : Copying d s m i) where
   pub done : take i m ≡ take i s
   done = ap (take i) v.front ∙ take_at (take i s) (drop i d) i (length-take-le i s v.within)
 
@@ -18,14 +18,14 @@ module _ {d s m : List ℕ} {i : ℕ} (v : Copying d s m i) where
   kept = ap (drop i) v.front ∙ drop_at (take i s) (drop i d) i (length-take-le i s v.within)
 
   -- it goes on with an area l where the next n of s are put behind those that are copied
-  pub part_more : {l : List ℕ} (n : ℕ) → l ≡ paste m i (drop i s) n → i + n ≤ length s → i + n ≤ length d → Copying d s l (i + n)
+  pub part_more : {l : List A} (n : ℕ) → l ≡ paste m i (drop i s) n → i + n ≤ length s → i + n ≤ length d → Copying d s l (i + n)
   part_more n e hs hd = record {
     within = hs;
     front =
         e
-        ∙ ap (λ (r : List ℕ). r ++ take n (drop i s) ++ drop (i + n) m) done
-        ∙ ap (λ (r : List ℕ). r ++ drop (i + n) m) (sym (take-add i n s))
-        ∙ ap (λ (r : List ℕ). take (i + n) s ++ r) (sym (drop-drop n i m) ∙ ap (drop n) kept ∙ drop-drop n i d);
+        ∙ ap (λ (r : List A). r ++ take n (drop i s) ++ drop (i + n) m) done
+        ∙ ap (λ (r : List A). r ++ drop (i + n) m) (sym (take-add i n s))
+        ∙ ap (λ (r : List A). take (i + n) s ++ r) (sym (drop-drop n i m) ∙ ap (drop n) kept ∙ drop-drop n i d);
     long = ap length e ∙ length-paste m i (drop i s) n (omega (arith, v.long)) (omega (arith, length-drop i s)) ∙ v.long;
   }
 

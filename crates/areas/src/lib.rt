@@ -10,6 +10,9 @@ ghost use Rattle.areas.specs.Blocks.{block_size};
 // The bytes of an accepted, candidate, recovery or exchange area, and the longest payload.
 pub const SIZE: usize = 4096;
 
+// So many elements at most are copied at a time: of the sizes tried the quickest for a whole area.
+const PART: usize = 2048;
+
 // So many bytes are exchanged at a time.
 const BLOCK: usize = 64;
 
@@ -20,14 +23,28 @@ pub fn is_sized(n: usize) -> bool
     n == SIZE
 }
 
+// The n elements of src from a place on over those of dst at the same place.
+fn copy_part<T: Copy>(dst: &mut [T], src: &[T], at: usize, n: usize)
+    requires { (at + n ≤ length src.now) × (at + n ≤ length dst.old) }
+    ensures { dst.new ≡ paste dst.old at (drop at src.now) n }
+{
+    dst[at..at + n].copy_from_slice(&src[at..at + n]);
+}
+
 // All elements of src over the first of dst, where they fit: the bytes of a payload, or words.
 pub fn copy<T: Copy>(dst: &mut [T], src: &[T])
     ensures { dst.new ≡ copied src.now dst.old }
 {
     let n = src.len();
-    if n <= dst.len() {
-        dst[..n].copy_from_slice(src);
+    if dst.len() < n {
+        return;
     }
+    let parts = n / PART;
+    for k in 0..parts {
+        copy_part(dst, src, PART * k, PART);
+    }
+    let rest = PART * parts;
+    copy_part(dst, src, rest, n - rest);
 }
 
 // The block of src that starts at a place. Blocks have a number of bytes that the compiler knows, so that it moves them by the
