@@ -10,32 +10,27 @@ const MODULUS: u64 = 4294967291;
 trait Element: Copy {
     ghost value: { Self → ℕ };
 
-    fn number(self) -> u64
-        ensures { result ≡ value self };
+    // What a digest becomes for it.
+    fn digested(self, h: u64) -> u64
+        requires { h < modulus }
+        ensures { result ≡ next h (value self) };
 }
 
 impl Element for u8 {
     ghost value = { λ byte. byte };
 
-    fn number(self) -> u64 {
-        u64::from(self)
+    // A byte is under the modulus.
+    fn digested(self, h: u64) -> u64 {
+        (h * 31 + u64::from(self) + 1) % MODULUS
     }
 }
 
 impl Element for u64 {
     ghost value = { λ word. word };
 
-    fn number(self) -> u64 {
-        self
+    fn digested(self, h: u64) -> u64 {
+        (h * 31 + self % MODULUS + 1) % MODULUS
     }
-}
-
-// What a digest becomes for an element.
-fn digested(h: u64, number: u64) -> u64
-    requires { h < modulus }
-    ensures { result ≡ next h number }
-{
-    (h * 31 + number % MODULUS + 1) % MODULUS
 }
 
 // The digest of the elements, from the first to the last.
@@ -44,7 +39,7 @@ fn digest_all<T: Element>(elements: &[T]) -> u64
 {
     let mut h = 0;
     for element in elements {
-        h = digested(h, element.number());
+        h = element.digested(h);
     }
     h
 }

@@ -5,7 +5,7 @@ use mathlib.Core.Bool.{Bool, true, false, not}
 use mathlib.Core.List.{List}
 use lib.ListN.{length, take}
 use borrow.Author.Tests.{ltb-false, eqb-true, not-false}
-use Rattle.std.specs.Prelude.{Result, Ok, Err}
+use Rattle.std.specs.Prelude.{Result, Option, Some, None, Err}
 use Rattle.tail_answers.specs.TailAnswers.{Verdict}
 use Rattle.choice.specs.Pick.{pick}
 use Rattle.choice.proofs.Tests.{neither}
@@ -41,21 +41,21 @@ table words room e h =
     let a = tested words room e h in
     record { threes = eqb-true (length words % 3) 0 (not-false _ (neither a).0); most = ltb-false 768 (length words) (neither a).1; records = ap (λ (r : Room). r.records) e }
 
--- words' own room, given back where it is a table's, or the refusal of others
-roomed : {room own : Room} (sized : Bool) → pick (not sized) (Err BadArea) (Ok own) ≡ Ok room → (own ≡ room) × (not sized ≡ false)
+-- words' own room, given back where it is a table's
+roomed : {room own : Room} (sized : Bool) → pick (not sized) None (Some own) ≡ Some room → (own ≡ room) × (not sized ≡ false)
 unfolding pick
 roomed true h = (cc, refl)
 roomed false h = cc
 
-pub has_room : {r : Result Room TailRefusal} {room : Room} (own : Room) → r ≡ pick (not own.sized) (Err BadArea) (Ok own) → r ≡ Ok room → (room ≡ own) × (not room.sized ≡ false)
+pub has_room : {r : Option Room} {room : Room} (own : Room) → r ≡ pick (not own.sized) None (Some own) → r ≡ Some room → (room ≡ own) × (not room.sized ≡ false)
 has_room own e h = let k = roomed own.sized (sym e ∙ h) in (sym k.0, ap (λ (x : Room). not x.sized) (sym k.0) ∙ k.1)
 
-unroomed : {why : TailRefusal} (own : Room) (sized : Bool) → pick (not sized) (Err BadArea) (Ok own) ≡ Err why → (why ≡ BadArea) × (not sized ≡ true)
+unroomed : (own : Room) (sized : Bool) → pick (not sized) None (Some own) ≡ None → not sized ≡ true
 unfolding pick
 unroomed own true h = cc
-unroomed own false h = (cc, refl)
+unroomed own false h = refl
 
-pub no_room : {r : Result Room TailRefusal} {why : TailRefusal} (own : Room) → r ≡ pick (not own.sized) (Err BadArea) (Ok own) → r ≡ Err why → (why ≡ BadArea) × (not own.sized ≡ true)
+pub no_room : {r : Option Room} (own : Room) → r ≡ pick (not own.sized) None (Some own) → r ≡ None → not own.sized ≡ true
 no_room own e h = unroomed own own.sized (sym e ∙ h)
 
 -- of others the first refusal is given

@@ -2,9 +2,8 @@
 // and after a move they are copied back. It is for the driver.
 #![tactic(auto)]
 
-ghost use Rattle.std.specs.Prelude.{◌≡◌, ◌≤◌, ◌/◌, ◌%◌, length, take, not, Ok, Err};
+ghost use Rattle.std.specs.Prelude.{◌≡◌, ◌≤◌, ◌/◌, ◌%◌, length, take, not, Some, None};
 ghost use Rattle.choice.specs.Pick.{pick};
-ghost use Rattle.tail_answers.specs.declared.TailRefusal.TheVariants.{BadArea};
 ghost use Rattle.tail_table.specs.Table.{tails_of, words_of};
 ghost use Rattle.tail_table.specs.Sweeping.{room_of};
 ghost use Rattle.tail_table.specs.TailCalls.{find_of, move_of, table_left};
@@ -13,14 +12,14 @@ use tail_answers::{Finding, TailRefusal};
 use tail_table::{Claim, File, MOST_RECORDS, NO_RECORD, Room, Tail, WIDTH};
 
 // The room of words that are a table's.
-fn room_of(words: &[u64]) -> Result<Room, TailRefusal>
-    ensures { result ≡ pick (not (room_of (length words.now)).sized) (Err BadArea) (Ok (room_of (length words.now))) }
+fn room_of(words: &[u64]) -> Option<Room>
+    ensures { result ≡ pick (not (room_of (length words.now)).sized) None (Some (room_of (length words.now))) }
 {
     let room = Room::of_words(words.len());
     if !room.sized {
-        return Err(TailRefusal::BadArea);
+        return None;
     }
-    Ok(room)
+    Some(room)
 }
 
 // The words' records, at the front of a row.
@@ -56,7 +55,9 @@ pub fn find(
 ) -> Result<Finding, TailRefusal>
     ensures { result ≡ find_of words.now used file size claim }
 {
-    let room: Room = room_of(words)?;
+    let Some(room) = room_of(words) else {
+        return Err(TailRefusal::BadArea);
+    };
     let row = row_of(words);
     tail_structs::find(&row[..room.records], used, file, size, claim)
 }
@@ -70,10 +71,9 @@ pub fn move_offset(
 ) -> Result<(), TailRefusal>
     ensures { table_left result used words.new ≡ move_of words.old used tail claim }
 {
-    // By hand, not by `?`, as in `tails::move_offset`.
     let room = match room_of(words) {
-        Ok(room) => room,
-        Err(why) => return Err(why),
+        Some(room) => room,
+        None => return Err(TailRefusal::BadArea),
     };
     let mut row = row_of(words);
     let answer = tail_structs::move_offset(&mut row[..room.records], used, tail, claim);

@@ -10,7 +10,7 @@ loop-element-preserved g c =
     let l = c.loop-element in
     let item = c.element-item in
     let turn = at_drop_more (digest_from g.T.Element.value l.h) c.args.elements.now l.element-index item.result c.loop-element-test.true in
-    (omega (arith, c.digested-h.ensures), rw (c.digested-h.ensures, c.number.ensures, item.is) (sym turn ∙ l.invariant.1))
+    (omega (arith, c.digested-h.ensures), rw (c.digested-h.ensures, item.is) (sym turn ∙ l.invariant.1))
 
 pub returns : goal.returns
 unfolding digest_from
