@@ -1,7 +1,7 @@
--- The parts in which bytes and words are copied, and the blocks in which areas are exchanged. Assumes nothing.
+-- The parts in which bytes are copied, and the blocks in which areas are exchanged. Assumes nothing.
 use Rattle.std.specs.Prelude.{ℕ}
 
--- so many at most are copied at a time; no promise of a public function hangs on it
+-- so many bytes at most are copied at a time; no promise of a public function hangs on it
 abbrev pub part_size : ℕ
 part_size = 2048
 

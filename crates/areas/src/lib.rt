@@ -5,12 +5,12 @@
 ghost use Rattle.std.specs.Prelude.{◌≡◌, ◌∷◌, [], ◌+◌, ◌≤◌, eqb, length, take, drop};
 ghost use Rattle.std.proofs.Math.Seq.{paste};
 ghost use Rattle.areas.specs.Areas.{area_size, copied, exchanged};
-ghost use Rattle.areas.specs.Blocks.{block_size};
+ghost use Rattle.areas.specs.Blocks.{block_size, part_size};
 
 // The bytes of an accepted, candidate, recovery or exchange area, and the longest payload.
 pub const SIZE: usize = 4096;
 
-// So many elements at most are copied at a time: of the sizes tried the quickest for a whole area.
+// So many bytes at most are copied at a time: of the sizes tried the quickest for a whole area.
 const PART: usize = 2048;
 
 // So many bytes are exchanged at a time.
@@ -23,23 +23,37 @@ pub fn is_sized(n: usize) -> bool
     n == SIZE
 }
 
-// The n elements of src from a place on over those of dst at the same place.
-fn copy_part<T: Copy>(dst: &mut [T], src: &[T], at: usize, n: usize)
-    requires { (at + n ≤ length src.now) × (at + n ≤ length dst.old) }
-    ensures { dst.new ≡ paste dst.old at (drop at src.now) n }
+// All elements of src over the first of dst, where they fit: words. For the bytes of a payload `copy_bytes` is quicker.
+pub fn copy<T: Copy>(dst: &mut [T], src: &[T])
+    ensures { dst.new ≡ copied src.now dst.old }
 {
-    dst[at..at + n].copy_from_slice(&src[at..at + n]);
+    let n = src.len();
+    if n <= dst.len() {
+        dst[..n].copy_from_slice(src);
+    }
 }
 
-// All elements of src over the first of dst, where they fit: the bytes of a payload, or words.
-pub fn copy<T: Copy>(dst: &mut [T], src: &[T])
+// The n bytes of src from a place on over those of dst at the same place, through a local array: all are read before the first is
+// written, so that the compiler, which is not told that the two slices lie apart, moves them at once and keeps no array.
+fn copy_part(dst: &mut [u8], src: &[u8], at: usize, n: usize)
+    requires { (n ≤ part_size) × (at + n ≤ length src.now) × (at + n ≤ length dst.old) }
+    ensures { dst.new ≡ paste dst.old at (drop at src.now) n }
+{
+    let mut part = [0; PART];
+    part[..n].copy_from_slice(&src[at..at + n]);
+    dst[at..at + n].copy_from_slice(&part[..n]);
+}
+
+// All bytes of src over the first of dst, where they fit: a payload.
+pub fn copy_bytes(dst: &mut [u8], src: &[u8])
     ensures { dst.new ≡ copied src.now dst.old }
 {
     let n = src.len();
     if dst.len() < n {
         return;
     }
-    let parts = n / PART;
+    // The last part may be a whole one: for an area two calls are made, not three.
+    let parts = n.saturating_sub(1) / PART;
     for k in 0..parts {
         copy_part(dst, src, PART * k, PART);
     }

@@ -21,7 +21,7 @@ use tail_table::{Claim, File, Tail};
 pub extern "C" fn edge_copy(dst: &mut [u8], src: &[u8])
     ensures { dst.new ≡ copied src.now dst.old }
 {
-    areas::copy(dst, src);
+    areas::copy_bytes(dst, src);
 }
 
 // Two areas of one size change places.

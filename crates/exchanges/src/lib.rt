@@ -28,8 +28,8 @@ pub fn replace(step: Stepped, accepted: &mut [u8], recovery: &[u8], exchange: &m
         ∷ copied accepted.old exchange.old ∷ []) }
 {
     if !step.is_refused() {
-        areas::copy(exchange, accepted);
-        areas::copy(accepted, recovery);
+        areas::copy_bytes(exchange, accepted);
+        areas::copy_bytes(accepted, recovery);
     }
     step
 }

@@ -17,7 +17,7 @@ pub fn payload(step: Stepped, area: &mut [u8], payload: &[u8]) -> Stepped
         ≡ moving (tells step) (area.old ∷ []) (copied payload.now area.old ∷ []) }
 {
     if !step.is_refused() {
-        areas::copy(area, payload);
+        areas::copy_bytes(area, payload);
     }
     step
 }
